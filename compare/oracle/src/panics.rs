@@ -1,0 +1,140 @@
+//! Catching what leaves the driver by unwinding: a read without an answer, and the panics that
+//! document 01 puts outside its domain. Any other panic is a mistake of ours and goes on.
+
+use std::cell::Cell;
+use std::panic::{catch_unwind, resume_unwind, set_hook, take_hook, AssertUnwindSafe};
+use std::path::Path;
+use std::sync::{LazyLock, Once};
+
+use stm32h5::NoAnswer;
+
+/// A panic raised in the driver's own files.
+#[derive(Clone, Debug, PartialEq, Eq)]
+pub struct Panic {
+    pub kind: PanicKind,
+    pub message: String,
+}
+
+#[derive(Clone, Copy, Debug, PartialEq, Eq)]
+pub enum PanicKind {
+    /// The target frequency is 0.
+    NoSpeed,
+    /// The prescaler does not fit its `u8`: only above 250 MHz.
+    ClockOver,
+    /// The clock is not four times the frequency.
+    Ratio,
+    /// The clock is below the band's least clock.
+    ClockSlow,
+    /// The frequency is too low for the clock.
+    SpeedLow,
+    /// No cycle is left for the data setup time.
+    NoSetup,
+    /// The secondary address's mask plus 1 does not fit its `u8`.
+    Mask,
+    /// An operation has over 255 bytes.
+    Long,
+    /// An AutoAck transfer has no byte.
+    Empty,
+    /// A NACK came before any byte of a block that is not the last.
+    NackAtOnce,
+    /// None of those that document 01 and its readers know.
+    Unknown,
+}
+
+impl PanicKind {
+    /// The refusal that document 01 gives instead.
+    pub fn refusal(self) -> Option<u32> {
+        Some(match self {
+            PanicKind::NoSpeed => 1,
+            PanicKind::ClockOver => 2,
+            PanicKind::Ratio => 3,
+            PanicKind::ClockSlow => 4,
+            PanicKind::SpeedLow => 5,
+            PanicKind::NoSetup => 6,
+            PanicKind::Mask => 8,
+            PanicKind::Long => 9,
+            PanicKind::Empty => 11,
+            PanicKind::NackAtOnce | PanicKind::Unknown => return None,
+        })
+    }
+
+    /// Messages of the compiler's own checks say too little: there the line must name the operand.
+    fn of(message: &str, line: &str) -> PanicKind {
+        const KINDS: [(&str, &str, PanicKind); 12] = [
+            ("divide by zero", "target_freq", PanicKind::NoSpeed),
+            ("add with overflow", "presc_reg", PanicKind::ClockOver),
+            ("at least 4 times the bus frequency", "", PanicKind::Ratio),
+            ("assertion failed: ker_ck >=", "", PanicKind::ClockSlow),
+            ("too fast for this bus frequency", "", PanicKind::SpeedLow),
+            ("assertion failed: presc_reg < 16", "", PanicKind::SpeedLow),
+            ("subtract with overflow", "scldel", PanicKind::NoSetup),
+            ("add with overflow", "oa2msk", PanicKind::Mask),
+            ("I2C max trans", "", PanicKind::Long),
+            ("assertion failed: !buffer.is_empty()", "", PanicKind::Empty),
+            ("assertion failed: !bytes.is_empty()", "", PanicKind::Empty),
+            ("subtract with overflow", "i - 1", PanicKind::NackAtOnce),
+        ];
+        KINDS
+            .iter()
+            .find(|(said, named, _)| message.contains(said) && line.contains(named))
+            .map_or(PanicKind::Unknown, |&(.., kind)| kind)
+    }
+}
+
+/// How the driver was left early.
+pub enum Left {
+    NoAnswer,
+    Panicked(Panic),
+}
+
+thread_local! {
+    static CATCHING: Cell<bool> = const { Cell::new(false) };
+    /// The line of `i2c.rs` or `hal.rs` that the driver panicked at.
+    static LINE: Cell<Option<u32>> = const { Cell::new(None) };
+}
+
+static LINES: LazyLock<Vec<&str>> = LazyLock::new(|| DRIVER.lines().collect());
+const DRIVER: &str = include_str!(concat!(env!("OUT_DIR"), "/i2c.rs"));
+
+/// Runs the driver. The panic hook, which alone learns the line, stays silent for it.
+pub fn catch<T>(driver: impl FnOnce() -> T) -> Result<T, Left> {
+    static HOOK: Once = Once::new();
+    HOOK.call_once(note_lines);
+    CATCHING.set(true);
+    let left = catch_unwind(AssertUnwindSafe(driver));
+    CATCHING.set(false);
+    left.map_err(|payload| {
+        if payload.is::<NoAnswer>() {
+            return Left::NoAnswer;
+        }
+        let Some(line) = LINE.take() else {
+            resume_unwind(payload)
+        };
+        let message = match payload.downcast::<String>() {
+            Ok(message) => *message,
+            Err(payload) => payload
+                .downcast::<&str>()
+                .map_or_else(|_| String::new(), |message| message.to_string()),
+        };
+        let line = LINES.get(line as usize - 1).copied().unwrap_or_default();
+        Left::Panicked(Panic {
+            kind: PanicKind::of(&message, line),
+            message,
+        })
+    })
+}
+
+fn note_lines() {
+    let usual = take_hook();
+    set_hook(Box::new(move |panic| {
+        let line = panic.location().and_then(|location| {
+            let file = Path::new(location.file()).file_name()?;
+            (file == "i2c.rs" || file == "hal.rs").then(|| location.line())
+        });
+        if CATCHING.get() && line.is_some() {
+            LINE.set(line);
+        } else {
+            usual(panic);
+        }
+    }));
+}

@@ -1,0 +1,707 @@
+//! One or more runs of every call, written out from document 01 and RM0492.
+//!
+//! A log tells the answers too: they are the values of its reads.
+
+use oracle::{run, Access, Configuration, Description, Outcome, PanicKind};
+use Outcome::*;
+
+const CR1: u32 = 0x00;
+const CR2: u32 = 0x04;
+const OAR1: u32 = 0x08;
+const OAR2: u32 = 0x0C;
+const TIMINGR: u32 = 0x10;
+const ISR: u32 = 0x18;
+const ICR: u32 = 0x1C;
+const RXDR: u32 = 0x24;
+const TXDR: u32 = 0x28;
+
+const TXE: u32 = 0x01;
+const TXIS: u32 = 0x02;
+const RXNE: u32 = 0x04;
+const ADDR: u32 = 0x08;
+const NACKF: u32 = 0x10;
+const STOPF: u32 = 0x20;
+const TC: u32 = 0x40;
+const TCR: u32 = 0x80;
+const BERR: u32 = 0x100;
+const ARLO: u32 = 0x200;
+const DIR: u32 = 0x1_0000;
+const ADDCODE_50: u32 = 0x50 << 17;
+const ADDCODE_7A: u32 = 0x7A << 17; // a 10-bit header
+
+const fn r(offset: u32, value: u32) -> Access {
+    [offset, value]
+}
+
+const fn w(offset: u32, value: u32) -> Access {
+    [0x100 + offset, value]
+}
+
+fn is_read(access: &Access) -> bool {
+    access[0] < 0x100
+}
+
+/// Runs the call over the log's answers and one more, which must stay unused, and holds outcome,
+/// value and log to what is written; then over every shorter list of answers, where the run must
+/// wait just before the read that finds none.
+fn check(description: Description, buffer: &mut [u8], log: &[Access], ends: (Outcome, u32)) {
+    let reads: Vec<usize> = (0..log.len()).filter(|&i| is_read(&log[i])).collect();
+    let mut answers: Vec<u32> = reads.iter().map(|&i| log[i][1]).collect();
+    answers.push(0xFFFF_FFFF);
+
+    for (used, &place) in reads.iter().enumerate() {
+        let cut = run(&description, &mut buffer.to_vec(), &answers[..used]);
+        assert_eq!((cut.outcome, cut.value), (Waiting, 0));
+        assert_eq!((cut.used, &cut.log[..]), (used, &log[..place]));
+    }
+
+    let whole = run(&description, buffer, &answers);
+    assert_eq!((whole.used, &whole.log[..]), (reads.len(), log));
+    assert_eq!((whole.outcome, whole.value), ends);
+}
+
+/// Calls that have nothing to describe but their number, and no bytes.
+fn check_plain(call: u32, log: &[Access], ends: (Outcome, u32)) {
+    let description = Description {
+        call,
+        ..Default::default()
+    };
+    check(description, &mut [], log, ends);
+}
+
+/// Calls that move bytes: `before` is lent, `after` is what the run leaves.
+fn check_bytes(call: u32, before: &[u8], log: &[Access], ends: (Outcome, u32), after: &[u8]) {
+    let description = Description {
+        call,
+        ..Default::default()
+    };
+    let mut buffer = before.to_vec();
+    check(description, &mut buffer, log, ends);
+    assert_eq!(buffer, after);
+}
+
+/// Call 7 to address 0x50, or to 0x2A5 if 10-bit.
+fn check_transaction(
+    ten_bit: bool,
+    operations: &[u32],
+    before: &[u8],
+    log: &[Access],
+    outcome: Outcome,
+    after: &[u8],
+) {
+    let description = Description {
+        call: 7,
+        address: if ten_bit { 0x2A5 } else { 0x50 },
+        ten_bit,
+        operations,
+        ..Default::default()
+    };
+    let mut buffer = before.to_vec();
+    check(description, &mut buffer, log, (outcome, 0));
+    assert_eq!(buffer, after);
+}
+
+const READ: u32 = 0x1_0000;
+
+const TARGET: Configuration = Configuration {
+    own_address: 0x42,
+    ten_bit: false,
+    secondary_address: Some(0x21),
+    mask: Some(2),
+};
+
+#[test]
+fn call_1_without_a_configuration() {
+    let description = Description {
+        call: 1,
+        timingr: 0x6FFB_1C39,
+        ..Default::default()
+    };
+    let log = [
+        r(CR1, 0xFFFF_FFFF),
+        w(CR1, 0xFFFF_FFFE),
+        w(TIMINGR, 0x60FB_1C39),
+        w(CR1, 1),
+    ];
+    check(description, &mut [], &log, (Done, 0));
+}
+
+#[test]
+fn call_1_with_a_configuration() {
+    let description = Description {
+        call: 1,
+        timingr: 0xFFFF_FFFF,
+        configuration: Some(TARGET),
+        ..Default::default()
+    };
+    let log = [
+        r(CR1, 0x0001_1001),
+        w(CR1, 0x0001_1000),
+        w(TIMINGR, 0xF0FF_FFFF),
+        w(OAR1, 0x84),
+        w(OAR2, 0x342),
+        w(CR1, 1),
+    ];
+    check(description, &mut [], &log, (Done, 0));
+}
+
+#[test]
+fn call_2_writes_no_scll_or_sclh() {
+    let description = Description {
+        call: 2,
+        timingr: 0xFFFF_FFFF,
+        configuration: Some(TARGET),
+        ..Default::default()
+    };
+    let log = [
+        r(CR1, 1),
+        w(CR1, 0),
+        w(TIMINGR, 0xF0FF_0000),
+        w(OAR1, 0x84),
+        w(OAR2, 0x342),
+        r(CR1, 0xFFFF_FFFE),
+        w(CR1, 0xFFFF_EFFF),
+    ];
+    check(description, &mut [], &log, (Done, 0));
+}
+
+#[test]
+fn call_3_in_both_modes() {
+    let configure = |configuration, log: &[Access]| {
+        let description = Description {
+            call: 3,
+            configuration: Some(configuration),
+            ..Default::default()
+        };
+        check(description, &mut [], log, (Done, 0));
+    };
+    let ten_bit = Configuration {
+        own_address: 0x2A5,
+        ten_bit: true,
+        mask: Some(6), // of no use without a secondary address
+        ..Default::default()
+    };
+    configure(ten_bit, &[w(OAR1, 0x6A5)]);
+    let unmasked = Configuration {
+        mask: None,
+        ..TARGET
+    };
+    configure(unmasked, &[w(OAR1, 0x84), w(OAR2, 0x42)]);
+    configure(TARGET, &[w(OAR1, 0x84), w(OAR2, 0x342)]);
+}
+
+#[test]
+fn calls_4_and_5_switch_each_kind() {
+    let switch = |call, listen, log: &[Access]| {
+        let description = Description {
+            call,
+            listen,
+            ..Default::default()
+        };
+        check(description, &mut [], log, (Done, 0));
+    };
+    switch(4, 0, &[r(CR1, 1), w(CR1, 0x0008_0001)]);
+    switch(4, 1, &[r(OAR1, 0x84), w(OAR1, 0x8084)]);
+    switch(4, 2, &[r(OAR2, 0x342), w(OAR2, 0x8342)]);
+    switch(5, 0, &[r(CR1, 0xFFFF_FFFF), w(CR1, 0xFFF7_FFFF)]);
+    switch(5, 1, &[r(OAR1, 0xFFFF_FFFF), w(OAR1, 0xFFFF_7FFF)]);
+    switch(5, 2, &[r(OAR2, 0x8342), w(OAR2, 0x342)]);
+}
+
+#[test]
+fn call_6_waits_until_pe_is_0() {
+    let log = [
+        r(CR1, 0x0001_0001),
+        w(CR1, 0x0001_0000),
+        r(CR1, 1), // the two reads that give time
+        r(CR1, 1),
+        r(CR1, 1), // still enabled
+        r(CR1, 0),
+        r(CR1, 0x0001_0000),
+        w(CR1, 0x0001_0001),
+    ];
+    check_plain(6, &log, (Done, 0));
+}
+
+#[test]
+fn call_7_as_document_01_prints_it() {
+    let log = [
+        w(CR2, 0x0202_20A0),
+        r(ISR, 1),
+        r(CR2, 0x0202_00A0),
+        r(ISR, 3),
+        w(TXDR, 0x12),
+        r(ISR, 3),
+        w(TXDR, 0x34),
+        r(ISR, 0x21),
+        w(ICR, 0x20),
+    ];
+    check_transaction(false, &[2], &[0x12, 0x34], &log, Done, &[0x12, 0x34]);
+}
+
+#[test]
+fn call_7_without_operations() {
+    check_transaction(false, &[], &[], &[], Done, &[]);
+}
+
+#[test]
+fn call_7_repeats_the_start_for_the_other_direction() {
+    let log = [
+        w(CR2, 0x0001_2AA5), // START, ADD10, one byte
+        r(ISR, TXE),
+        r(CR2, 0x2000), // START still pending
+        r(ISR, TXE),
+        r(CR2, 0),
+        r(ISR, TXE),
+        r(ISR, TXE | TXIS),
+        w(TXDR, 0x12),
+        r(ISR, TXE),
+        r(ISR, TXE | TC),
+        w(CR2, 0x0202_3EA5), // AUTOEND, START, HEAD10R, ADD10, RD_WRN, two bytes
+        r(ISR, TXE),
+        r(CR2, 0),
+        r(ISR, TXE | NACKF), // a byte in does not look at NACK
+        r(ISR, RXNE | STOPF | ADDR),
+        r(RXDR, 0xFFFF_FFAB),
+        r(ISR, RXNE),
+        r(RXDR, 0xCD),
+        r(ISR, TXE),
+        r(ISR, STOPF),
+        w(ICR, STOPF),
+    ];
+    check_transaction(
+        true,
+        &[1, READ | 2],
+        &[0x12, 0, 0],
+        &log,
+        Done,
+        &[0x12, 0xAB, 0xCD],
+    );
+}
+
+#[test]
+fn call_7_reloads_for_the_same_direction() {
+    let log = [
+        w(CR2, 0x0101_24A0), // RELOAD, START, RD_WRN, one byte
+        r(ISR, TXE),
+        r(CR2, 0),
+        r(ISR, RXNE),
+        r(RXDR, 0x11),
+        r(ISR, TC), // not what is awaited
+        r(ISR, TCR),
+        w(CR2, 0x0200_0400), // AUTOEND, RD_WRN, no byte
+        r(ISR, TXE),
+        r(CR2, 0),
+        r(ISR, STOPF),
+        w(ICR, STOPF),
+    ];
+    check_transaction(false, &[READ | 1, READ], &[0], &log, Done, &[0x11]);
+}
+
+#[test]
+fn call_7_flushes_after_a_nack_and_waits_for_the_stop() {
+    let log = [
+        w(CR2, 0x0201_20A0),
+        r(ISR, TXE),
+        r(CR2, 0),
+        r(ISR, NACKF | TXIS | STOPF),
+        w(ICR, NACKF),
+        r(ISR, TXIS),
+        w(TXDR, 0),
+        r(ISR, 0),
+        w(ISR, 1),
+        r(ISR, TXE),
+        r(ISR, TXE | STOPF),
+        w(ICR, STOPF),
+    ];
+    check_transaction(false, &[1], &[0x12], &log, Nack, &[0x12]);
+}
+
+#[test]
+fn call_7_gives_the_newer_error() {
+    let log = [
+        w(CR2, 0x0201_20A0),
+        r(ISR, BERR | ARLO | NACKF),
+        w(ICR, BERR),
+        r(ISR, ARLO | STOPF),
+        w(ICR, ARLO),
+    ];
+    check_transaction(false, &[1], &[0x12], &log, Arbitration, &[0x12]);
+}
+
+#[test]
+fn call_7_stopped_while_reading() {
+    let log = [
+        w(CR2, 0x0202_24A0),
+        r(ISR, TXE),
+        r(CR2, 0),
+        r(ISR, RXNE),
+        r(RXDR, 0x77),
+        r(ISR, STOPF),
+        r(ISR, STOPF),
+        w(ICR, STOPF),
+    ];
+    check_transaction(false, &[READ | 2], &[1, 2], &log, Stopped, &[0x77, 2]);
+}
+
+#[test]
+fn a_waiting_run_leaves_the_bytes_received_so_far() {
+    let description = Description {
+        call: 7,
+        address: 0x50,
+        operations: &[READ | 3],
+        ..Default::default()
+    };
+    let mut buffer = [1, 2, 3];
+    let answers = [TXE, 0, RXNE, 0x71, RXNE, 0x72, RXNE];
+    let cut = run(&description, &mut buffer, &answers);
+    assert_eq!((cut.outcome.word(), cut.used), ("waiting", 7));
+    assert_eq!(buffer, [0x71, 0x72, 3]);
+}
+
+#[test]
+fn call_8_tells_the_events() {
+    let log = [
+        r(ISR, TXE),
+        r(ISR, ADDCODE_50 | DIR | ADDR | TXE | STOPF),
+        w(ICR, ADDR),
+    ];
+    check_plain(8, &log, (EventRead, 0x50));
+
+    let log = [
+        r(ISR, ADDCODE_7A | ADDR),
+        w(ISR, 1),
+        w(ICR, ADDR),
+        r(OAR1, 0x86A5),
+    ];
+    check_plain(8, &log, (EventWrite, 0x2A5));
+
+    check_plain(8, &[r(ISR, STOPF), w(ICR, STOPF)], (EventStop, 0));
+    check_plain(8, &[r(ISR, BERR | ADDR), w(ICR, BERR)], (Bus, 0));
+}
+
+#[test]
+fn call_9_ends_with_nack_set_but_after_an_error() {
+    let log = [
+        r(ISR, RXNE),
+        r(RXDR, 0x171),
+        r(ISR, TXE | NACKF),
+        r(ISR, RXNE),
+        r(RXDR, 0x72),
+        r(CR2, 0x0001_0000),
+        w(CR2, 0x0001_8000),
+    ];
+    check_bytes(9, &[0, 0], &log, (Done, 2), &[0x71, 0x72]);
+
+    let log = [
+        r(ISR, RXNE),
+        r(RXDR, 0x71),
+        r(ISR, ADDR),
+        r(CR2, 0),
+        w(CR2, 0x8000),
+    ];
+    check_bytes(9, &[0, 5], &log, (Done, 1), &[0x71, 5]);
+
+    check_bytes(
+        9,
+        &[5],
+        &[r(ISR, ARLO), w(ICR, ARLO)],
+        (Arbitration, 0),
+        &[5],
+    );
+}
+
+#[test]
+fn call_10_fills_with_zeros_and_counts_up_to_the_buffer() {
+    let log = [
+        r(ISR, TXE | TXIS),
+        w(TXDR, 0x12),
+        r(ISR, TXE),
+        r(ISR, TXIS),
+        w(TXDR, 0),
+        r(ISR, TXIS),
+        w(TXDR, 0),
+        r(ISR, NACKF | TXIS),
+        w(ICR, NACKF),
+        r(ISR, TXIS),
+        w(TXDR, 0),
+        r(ISR, TXE),
+    ];
+    check_bytes(10, &[0x12], &log, (Done, 1), &[0x12]);
+
+    let log = [r(ISR, NACKF), w(ICR, NACKF), r(ISR, TXE), r(ISR, TXE)];
+    check_bytes(10, &[0x12], &log, (Done, 0), &[0x12]);
+}
+
+#[test]
+fn call_11_waits_for_a_write_event() {
+    let log = [
+        r(ISR, ADDCODE_50 | ADDR | TXE),
+        w(ICR, ADDR),
+        r(ISR, RXNE),
+        r(RXDR, 0x71),
+        r(CR2, 0),
+        w(CR2, 0x8000),
+    ];
+    check_bytes(11, &[0], &log, (Done, 1), &[0x71]);
+
+    let log = [r(ISR, ADDCODE_50 | DIR | ADDR | TXE), w(ICR, ADDR)];
+    check_bytes(11, &[9], &log, (ExpectedWrite, 0), &[9]);
+    let log = [r(ISR, STOPF), w(ICR, STOPF)];
+    check_bytes(11, &[9], &log, (Stopped, 0), &[9]);
+}
+
+#[test]
+fn call_12_waits_for_a_read_event() {
+    let log = [
+        r(ISR, ADDCODE_50 | DIR | ADDR),
+        w(ISR, 1),
+        w(ICR, ADDR),
+        r(ISR, TXIS),
+        w(TXDR, 0x12),
+        r(ISR, TXIS),
+        w(TXDR, 0x34),
+        r(ISR, NACKF),
+        w(ICR, NACKF),
+        r(ISR, 0),
+        r(ISR, 0),
+        w(ISR, 1),
+    ];
+    check_bytes(12, &[0x12, 0x34], &log, (Done, 1), &[0x12, 0x34]);
+
+    let log = [r(ISR, ADDCODE_50 | ADDR | TXE), w(ICR, ADDR)];
+    check_bytes(12, &[9], &log, (ExpectedRead, 0), &[9]);
+    let log = [r(ISR, STOPF), w(ICR, STOPF)];
+    check_bytes(12, &[9], &log, (Stopped, 0), &[9]);
+}
+
+#[test]
+fn call_13_waits_for_a_stop() {
+    check_plain(13, &[r(ISR, TXE), r(ISR, STOPF), w(ICR, STOPF)], (Done, 0));
+    let event = ADDCODE_50 | ADDR | TXE;
+    check_plain(13, &[r(ISR, event | DIR), w(ICR, ADDR)], (ExpectedWrite, 0));
+    check_plain(13, &[r(ISR, event), w(ICR, ADDR)], (ExpectedRead, 0));
+}
+
+#[test]
+fn calls_14_and_15_end_a_manual_transfer() {
+    check_plain(14, &[r(CR2, 0xFFFF_FFFF), w(CR2, 0xFEFF_FFFF)], (Done, 0));
+    let log = [
+        r(CR2, 0x0101_0000),
+        w(CR2, 0x0101_8000),
+        r(CR2, 0x0101_8000),
+        w(CR2, 0x0001_8000),
+    ];
+    check_plain(15, &log, (Done, 0));
+}
+
+/// The accesses of a manual event after its ISR read, up to the address.
+const MANUAL: [Access; 4] = [
+    r(CR1, 0x0001_0001),
+    w(CR1, 1),
+    r(CR2, 0x01FF_8000),
+    w(CR2, 0x8000),
+];
+
+/// Those that follow a write event's address.
+const MANUAL_WRITE: [Access; 4] = [
+    r(CR1, 1),
+    w(CR1, 0x0001_0001),
+    r(CR2, 0x8000),
+    w(CR2, 0x0100_8000),
+];
+
+#[test]
+fn call_24_sets_up_byte_control() {
+    let mut log = vec![r(ISR, ADDCODE_50 | DIR | ADDR), w(ISR, 1)];
+    log.extend(MANUAL);
+    log.push(w(ICR, ADDR));
+    check_plain(24, &log, (EventRead, 0x50));
+
+    let mut log = vec![r(ISR, ADDCODE_7A | ADDR | TXE)];
+    log.extend(MANUAL);
+    log.push(r(OAR1, 0x6A5));
+    log.extend(MANUAL_WRITE);
+    check_plain(24, &log, (EventWrite, 0x2A5));
+
+    check_plain(24, &[r(ISR, STOPF), w(ICR, STOPF)], (EventStop, 0));
+}
+
+#[test]
+fn call_25_reads_in_blocks() {
+    let mut log = vec![r(CR2, 0x0100_0000), w(CR2, 0x01FF_0000), w(ICR, ADDR)];
+    log.extend([r(ISR, RXNE), r(RXDR, 0x71)].repeat(255));
+    log.extend([r(CR2, 0x01FF_0000), w(CR2, 0x0102_0000)]);
+    log.extend([r(ISR, RXNE), r(RXDR, 0x72)]);
+    let block = log.len();
+    log.extend([r(ISR, RXNE), r(RXDR, 0x73)]);
+    let mut bytes = vec![0x71; 255];
+    bytes.extend([0x72, 0x73]);
+    check_bytes(25, &[0; 257], &log, (Done, 257), &bytes);
+
+    log.truncate(block);
+    log.push(r(ISR, STOPF)); // neither cleared nor answered with a NACK
+    bytes[256] = 0;
+    check_bytes(25, &[0; 257], &log, (Done, 256), &bytes);
+
+    check_bytes(25, &[], &[], (Done, 0), &[]);
+}
+
+/// A NACK that finds nothing to flush.
+const NACK: [Access; 4] = [r(ISR, NACKF | TXE), w(ICR, NACKF), r(ISR, TXE), r(ISR, TXE)];
+
+#[test]
+fn call_26_writes_in_blocks_and_fills_the_last() {
+    let mut log = vec![r(CR2, 0), w(CR2, 0x00FF_0000), w(ICR, ADDR)];
+    log.extend([r(ISR, TXIS), w(TXDR, 0x12)].repeat(255));
+    log.extend([r(CR2, 0x00FF_0000), w(CR2, 0x0001_0000)]);
+    log.extend([r(ISR, TXIS), w(TXDR, 0x12)]);
+    log.extend([r(ISR, TXIS), w(TXDR, 0)].repeat(3));
+    log.extend(NACK);
+    check_bytes(26, &[0x12; 256], &log, (Done, 256), &[0x12; 256]);
+
+    let mut log = vec![r(CR2, 0), w(CR2, 0x00FF_0000), w(ICR, ADDR)];
+    log.extend([r(ISR, TXIS), w(TXDR, 0x12)].repeat(5));
+    log.extend(NACK);
+    check_bytes(26, &[0x12; 256], &log, (Done, 4), &[0x12; 256]);
+
+    check_bytes(26, &[], &[], (Done, 0), &[]);
+}
+
+#[test]
+fn call_27_reads_after_a_manual_write_event() {
+    let mut log = vec![r(ISR, ADDCODE_50 | ADDR | TXE)];
+    log.extend(MANUAL);
+    log.extend(MANUAL_WRITE);
+    check_bytes(27, &[], &log, (Done, 0), &[]);
+
+    log.extend([r(CR2, 0x0100_0000), w(CR2, 0x0101_0000), w(ICR, ADDR)]);
+    log.extend([r(ISR, RXNE), r(RXDR, 0x71)]);
+    check_bytes(27, &[0], &log, (Done, 1), &[0x71]);
+}
+
+#[test]
+fn call_28_writes_after_a_manual_read_event() {
+    let mut log = vec![r(ISR, ADDCODE_50 | DIR | ADDR | TXE)];
+    log.extend(MANUAL);
+    log.push(w(ICR, ADDR));
+    log.extend([r(CR2, 0), w(CR2, 0x0001_0000), w(ICR, ADDR)]);
+    log.extend([r(ISR, TXIS), w(TXDR, 0x12)]);
+    log.extend(NACK);
+    check_bytes(28, &[0x12], &log, (Done, 0), &[0x12]);
+
+    let mut log = vec![r(ISR, ADDCODE_50 | ADDR | TXE)];
+    log.extend(MANUAL);
+    log.extend(MANUAL_WRITE);
+    check_bytes(28, &[0x12], &log, (ExpectedRead, 0), &[0x12]);
+}
+
+#[test]
+fn call_29_completes_an_unfitting_event() {
+    let mut log = vec![r(ISR, ADDCODE_50 | DIR | ADDR | TXE)];
+    log.extend(MANUAL);
+    log.push(w(ICR, ADDR));
+    check_plain(29, &log, (ExpectedWrite, 0));
+
+    check_plain(29, &[r(ISR, STOPF), w(ICR, STOPF)], (Done, 0));
+}
+
+/// Holds a run that panics to its log, as `check` does others.
+fn check_panic(description: Description, length: usize, log: &[Access], kind: PanicKind) {
+    let reads = log.iter().filter(|access| is_read(access));
+    let answers: Vec<u32> = reads.map(|access| access[1]).collect();
+    let broken = run(&description, &mut vec![0; length], &answers);
+    assert_eq!(broken.log, log);
+    match broken.outcome {
+        Panicked(panic) => assert_eq!(panic.kind, kind),
+        outcome => panic!("{}", outcome.word()),
+    }
+}
+
+#[test]
+fn a_nack_before_any_byte_of_a_block_panics() {
+    let description = Description {
+        call: 26,
+        ..Default::default()
+    };
+    let mut log = vec![r(CR2, 0), w(CR2, 0x00FF_0000), w(ICR, ADDR)];
+    log.extend(NACK);
+    check_panic(description, 256, &log, PanicKind::NackAtOnce);
+}
+
+#[test]
+fn a_long_operation_panics_when_it_is_reached() {
+    let transaction = |operations| Description {
+        call: 7,
+        operations,
+        ..Default::default()
+    };
+    check_panic(transaction(&[256]), 256, &[], PanicKind::Long);
+    let first = |control, ending| [w(CR2, control), r(ISR, TXE), r(CR2, 0), r(ISR, ending)];
+    check_panic(
+        transaction(&[0, 256]),
+        256,
+        &first(0x0100_2000, TCR),
+        PanicKind::Long,
+    );
+    check_panic(
+        transaction(&[0, READ | 256]),
+        256,
+        &first(0x2000, TC),
+        PanicKind::Long,
+    );
+}
+
+#[test]
+fn an_empty_buffer_panics_in_an_auto_transfer() {
+    let auto = |call| Description {
+        call,
+        ..Default::default()
+    };
+    check_panic(auto(9), 0, &[], PanicKind::Empty);
+    check_panic(auto(10), 0, &[], PanicKind::Empty);
+    let event = ADDCODE_50 | ADDR | TXE;
+    let log = |event| [r(ISR, event), w(ICR, ADDR)];
+    check_panic(auto(11), 0, &log(event), PanicKind::Empty);
+    check_panic(auto(12), 0, &log(event | DIR), PanicKind::Empty);
+}
+
+#[test]
+fn a_mask_of_255_panics_and_other_wide_ones_are_cut() {
+    let masked = |mask| Description {
+        call: 3,
+        configuration: Some(Configuration {
+            mask: Some(mask),
+            ..TARGET
+        }),
+        ..Default::default()
+    };
+    check_panic(masked(255), 0, &[w(OAR1, 0x84)], PanicKind::Mask);
+    check(
+        masked(7),
+        &mut [],
+        &[w(OAR1, 0x84), w(OAR2, 0x42)],
+        (Done, 0),
+    );
+}
+
+#[test]
+fn wide_addresses_are_cut_to_their_fields() {
+    let description = Description {
+        call: 3,
+        configuration: Some(Configuration {
+            own_address: 0xFFFF,
+            secondary_address: Some(0xFF),
+            ..Default::default()
+        }),
+        ..Default::default()
+    };
+    let log = [w(OAR1, 0x3FE), w(OAR2, 0xFE)];
+    check(description, &mut [], &log, (Done, 0));
+}
+
+#[test]
+#[should_panic(expected = "there is no call 16")]
+fn a_mistake_of_the_caller_is_no_outcome() {
+    check_plain(16, &[], (Done, 0));
+}

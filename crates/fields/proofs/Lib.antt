@@ -1,0 +1,5 @@
+pub mod Table
+pub mod Tests
+pub mod Arithmetic
+pub mod Laws
+pub mod Apart

@@ -1,0 +1,4 @@
+pub mod Tests
+pub mod Quotients
+pub mod Rows
+pub mod Round

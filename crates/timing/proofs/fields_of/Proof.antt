@@ -1,0 +1,18 @@
+-- `timing::fields_of` meets its contract, by what the delays ensure. Assumes nothing.
+use borrow.Author.Needs.{needs}
+use Rattle.timing.proofs.fields_of.Statement.{statement}
+use Rattle.timing.proofs.fields_of.Tie as tie
+
+pub fields-of-spec : {M : Type 1} → statement M
+fields-of-spec =
+    tie.close
+    (tie.spec
+    (λ c. search needs)
+    (λ c. search needs)
+    (λ c. search needs)
+    (λ c. search needs)
+    (λ c κs. search needs)
+    (λ c. search needs)
+    (λ c. search needs)
+    (λ c κs. search needs)
+    (λ c. cc))

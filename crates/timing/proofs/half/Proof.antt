@@ -1,0 +1,15 @@
+-- `timing::half` meets its contract: the cycle has 4 to 513 steps. Assumes nothing.
+use native.Mathlib.Omega.{arith}
+use Rattle.timing.proofs.Quotients.{quot-ge, quot-lt}
+use borrow.Author.Needs.{needs}
+use Rattle.timing.proofs.half.Statement.{statement}
+use Rattle.timing.proofs.half.Tie as tie
+
+pub half-spec : {M : Type 1} → statement M
+half-spec =
+    tie.close
+    (tie.spec
+    (λ c. search needs)
+    (λ c. omega (arith, quot-ge 4 (c .args .r) (c .args .p) (omega arith) (omega arith)))
+    (λ c. omega (arith, quot-lt 514 (c .args .r) (c .args .p) (omega arith) (omega arith)))
+    (λ c. search needs))

@@ -1,0 +1,4 @@
+pub mod Refusals
+pub mod Timingr
+pub mod Bands
+pub mod Bounds
