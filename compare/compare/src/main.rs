@@ -1,1 +1,103 @@
-fn main() {}
+//! Compares the Rattle library with the Rust driver.
+
+mod answer;
+mod packing;
+mod pairs;
+mod random;
+mod rattle;
+mod store;
+mod timing;
+
+use std::{env, process::ExitCode};
+
+const USAGE: &str = "usage: compare timing [--pairs N] [--seed S]
+       compare packing [--seed S]
+       compare store-timing --inputs FILE --answers FILE [--check]";
+
+fn main() -> ExitCode {
+    match command(Arguments(env::args().skip(1).collect())) {
+        Ok(true) => ExitCode::SUCCESS,
+        Ok(false) => ExitCode::FAILURE,
+        Err(mistake) => {
+            eprintln!("{mistake}\n{USAGE}");
+            ExitCode::from(2)
+        }
+    }
+}
+
+/// Whether the command found all well, or what is wrong with its arguments or files.
+fn command(mut arguments: Arguments) -> Result<bool, String> {
+    let command = arguments.first()?;
+    match command.as_str() {
+        "timing" => {
+            let pairs = arguments.number("--pairs", 1_000_000)?;
+            let seed = arguments.number("--seed", 1)?;
+            arguments.none_left()?;
+            Ok(timing::compare(pairs, seed))
+        }
+        "packing" => {
+            let seed = arguments.number("--seed", 1)?;
+            arguments.none_left()?;
+            Ok(packing::compare(seed))
+        }
+        "store-timing" => {
+            let inputs = arguments.value("--inputs")?.ok_or("--inputs is missing")?;
+            let answers = arguments
+                .value("--answers")?
+                .ok_or("--answers is missing")?;
+            let check = arguments.flag("--check");
+            arguments.none_left()?;
+            let result = if check {
+                store::check(&inputs, &answers)
+            } else {
+                store::write(&inputs, &answers).map(|()| true)
+            };
+            result.map_err(|error| error.to_string())
+        }
+        _ => Err(format!("there is no command {command}")),
+    }
+}
+
+/// The words of the command line that were not taken yet.
+struct Arguments(Vec<String>);
+
+impl Arguments {
+    fn first(&mut self) -> Result<String, String> {
+        if self.0.is_empty() {
+            return Err("a command is missing".to_string());
+        }
+        Ok(self.0.remove(0))
+    }
+
+    fn flag(&mut self, name: &str) -> bool {
+        let place = self.0.iter().position(|word| word == name);
+        place.map(|place| self.0.remove(place)).is_some()
+    }
+
+    fn value(&mut self, name: &str) -> Result<Option<String>, String> {
+        let Some(place) = self.0.iter().position(|word| word == name) else {
+            return Ok(None);
+        };
+        if place + 1 == self.0.len() {
+            return Err(format!("{name} has no value"));
+        }
+        self.0.remove(place);
+        Ok(Some(self.0.remove(place)))
+    }
+
+    fn number(&mut self, name: &str, usual: u64) -> Result<u64, String> {
+        match self.value(name)? {
+            Some(word) => word
+                .parse()
+                .map_err(|_| format!("{name} {word} is no number")),
+            None => Ok(usual),
+        }
+    }
+
+    fn none_left(&self) -> Result<(), String> {
+        match self.0.first() {
+            Some(word) => Err(format!("{word} is not understood")),
+            None => Ok(()),
+        }
+    }
+}

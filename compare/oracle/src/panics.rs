@@ -2,7 +2,9 @@
 //! document 01 puts outside its domain. Any other panic is a mistake of ours and goes on.
 
 use std::cell::Cell;
-use std::panic::{catch_unwind, resume_unwind, set_hook, take_hook, AssertUnwindSafe};
+use std::panic::{
+    catch_unwind, resume_unwind, set_hook, take_hook, AssertUnwindSafe, PanicHookInfo,
+};
 use std::path::Path;
 use std::sync::{LazyLock, Once};
 
@@ -37,7 +39,7 @@ pub enum PanicKind {
     Empty,
     /// A NACK came before any byte of a block that is not the last.
     NackAtOnce,
-    /// None of those that document 01 and its readers know.
+    /// None of these: a finding.
     Unknown,
 }
 
@@ -89,17 +91,13 @@ pub enum Left {
 
 thread_local! {
     static CATCHING: Cell<bool> = const { Cell::new(false) };
-    /// The line of `i2c.rs` or `hal.rs` that the driver panicked at.
-    static LINE: Cell<Option<u32>> = const { Cell::new(None) };
+    static PANIC: Cell<Option<Panic>> = const { Cell::new(None) };
 }
 
-static LINES: LazyLock<Vec<&str>> = LazyLock::new(|| DRIVER.lines().collect());
-const DRIVER: &str = include_str!(concat!(env!("OUT_DIR"), "/i2c.rs"));
-
-/// Runs the driver. The panic hook, which alone learns the line, stays silent for it.
+/// Runs the driver, of whose panics the usual hook hears nothing.
 pub fn catch<T>(driver: impl FnOnce() -> T) -> Result<T, Left> {
     static HOOK: Once = Once::new();
-    HOOK.call_once(note_lines);
+    HOOK.call_once(note_panics);
     CATCHING.set(true);
     let left = catch_unwind(AssertUnwindSafe(driver));
     CATCHING.set(false);
@@ -107,34 +105,36 @@ pub fn catch<T>(driver: impl FnOnce() -> T) -> Result<T, Left> {
         if payload.is::<NoAnswer>() {
             return Left::NoAnswer;
         }
-        let Some(line) = LINE.take() else {
-            resume_unwind(payload)
-        };
-        let message = match payload.downcast::<String>() {
-            Ok(message) => *message,
-            Err(payload) => payload
-                .downcast::<&str>()
-                .map_or_else(|_| String::new(), |message| message.to_string()),
-        };
-        let line = LINES.get(line as usize - 1).copied().unwrap_or_default();
-        Left::Panicked(Panic {
-            kind: PanicKind::of(&message, line),
-            message,
-        })
+        match PANIC.take() {
+            Some(panic) => Left::Panicked(panic),
+            None => resume_unwind(payload),
+        }
     })
 }
 
-fn note_lines() {
+/// Notes the driver's panics in a hook, since only a hook learns the line.
+fn note_panics() {
     let usual = take_hook();
-    set_hook(Box::new(move |panic| {
-        let line = panic.location().and_then(|location| {
-            let file = Path::new(location.file()).file_name()?;
-            (file == "i2c.rs" || file == "hal.rs").then(|| location.line())
-        });
-        if CATCHING.get() && line.is_some() {
-            LINE.set(line);
-        } else {
-            usual(panic);
+    set_hook(Box::new(move |panic| match line(panic) {
+        Some(line) if CATCHING.get() => {
+            let message = panic.payload_as_str().unwrap_or_default();
+            PANIC.set(Some(Panic {
+                kind: PanicKind::of(message, line),
+                message: message.to_string(),
+            }));
         }
+        _ => usual(panic),
     }));
+}
+
+/// The line of `i2c.rs` that a panic of the driver was raised at; of `hal.rs` none is told apart.
+fn line(panic: &PanicHookInfo) -> Option<&'static str> {
+    const I2C: &str = include_str!(concat!(env!("OUT_DIR"), "/i2c.rs"));
+    static LINES: LazyLock<Vec<&str>> = LazyLock::new(|| I2C.lines().collect());
+    let location = panic.location()?;
+    match Path::new(location.file()).file_name()?.to_str()? {
+        "i2c.rs" => LINES.get(location.line() as usize - 1).copied(),
+        "hal.rs" => Some(""),
+        _ => None,
+    }
 }

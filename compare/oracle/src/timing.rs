@@ -4,7 +4,8 @@ use crate::i2c::{I2cTiming, IntoI2cTiming, RawTimingr};
 use crate::panics::{catch, Left, Panic};
 use crate::time::Hertz;
 
-/// The five fields of TIMINGR, from the top bit down.
+/// The five fields of TIMINGR, from the top bit down, laid out as C does.
+#[repr(C)]
 #[derive(Clone, Copy, Debug, PartialEq, Eq)]
 pub struct Fields {
     pub presc: u8,

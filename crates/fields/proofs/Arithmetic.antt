@@ -1,7 +1,7 @@
 -- The laws of `bitsAt` and `withBits`, over position and width, and the masks that compute them. Assumes nothing.
 use mathlib.Core.Path.{_≡_, sym, ap, ap₂, _∙_, subst}
 use Prim.Native.Nat.{ℕ, _+_, _-_, _*_, _/_, _%_, _^_, _≤_, _<_}
-use native.Mathlib.Nat.{mod-lt, mod-mod, sub-add-cancel, add-mul, add-zero, mod-eq-of-lt}
+use native.Mathlib.Nat.{mod-lt, mod-mod, sub-add-cancel, add-mul, add-zero, zero-add, zero-mul, zero-div, div-eq-of-lt, mod-eq-of-lt}
 use native.Mathlib.Omega.{arith}
 use lib.Arith.{digits-lt}
 use lib.Bits.{bitAnd, bitOr, and-mask, and-block, and-high, or-block, or-shifted, or-zero-r}
@@ -42,6 +42,11 @@ with-with w a n u v =
 pub with-bits : (w a n : ℕ) → withBits w a n (bitsAt w a n) ≡ w
 unfolding withBits bitsAt
 with-bits w a n = rw (mod-mod, split, split)
+
+-- a field put above all that is set is added
+pub with-on : (w a n v : ℕ) → w < 2 ^ a → v < 2 ^ n → withBits w a n v ≡ v * 2 ^ a + w
+unfolding withBits
+with-on w a n v hw hv = simp (div-eq-of-lt hw, zero-div, zero-mul, zero-add, mod-eq-of-lt hv, mod-eq-of-lt hw)
 
 -- a field goes by the bits below its end
 lower : (w b m a : ℕ) → b + m ≤ a → bitsAt (w % 2 ^ a) b m ≡ bitsAt w b m

@@ -1,12 +1,12 @@
 -- The laws of a field, each over every place, word and value. Assumes nothing.
 use mathlib.Core.Path.{_≡_, refl, sym, ap, _∙_, subst}
 use mathlib.Core.Bool.{Bool, true, false, cond, _&&_, _||_}
-use Prim.Native.Nat.{ℕ, _+_, _-_, _%_, _^_, _≤_, _<_}
+use Prim.Native.Nat.{ℕ, _+_, _-_, _*_, _%_, _^_, _≤_, _<_}
 use native.Mathlib.Omega.{arith}
 use lib.Dec.{T, leb, ltb, leb→le, ltb→lt}
 use lib.Pow.{pow-pos}
 use Rattle.fields.specs.Field.{Place, inside, bitsAt, withBits, getOf, putOf, apart}
-use Rattle.fields.proofs.Arithmetic.{bits-lt, bits-with, with-low, with-with, with-bits, bits-before, bits-after, with-lt}
+use Rattle.fields.proofs.Arithmetic.{bits-lt, bits-with, with-low, with-with, with-bits, with-on, bits-before, bits-after, with-lt}
 
 -- by whether a place lies within the word
 by : (P : Bool → Type 0) (b : Bool) → (T b → P true) → P false → P b
@@ -68,7 +68,7 @@ pub put-put : (w : ℕ) (p : Place) (u v : ℕ) → putOf (putOf w p u) p v ≡ 
 unfolding putOf
 put-put w p u v =
     by (λ (b : Bool). cond b (withBits (cond b (withBits w (p .at) (p .width) u) w) (p .at) (p .width) v) (cond b (withBits w (p .at) (p .width) u) w)
-      ≡ cond b (withBits w (p .at) (p .width) v) w)
+    ≡ cond b (withBits w (p .at) (p .width) v) w)
     (inside p)
     (λ _. with-with w (p .at) (p .width) u v)
     refl
@@ -80,6 +80,11 @@ put-get w p =
     by (λ (b : Bool). cond b (withBits w (p .at) (p .width) (cond b (bitsAt w (p .at) (p .width)) 0)) w ≡ w) (inside p)
     (λ _. with-bits w (p .at) (p .width))
     refl
+
+-- a field put above all that is set is added
+pub put-on : (w : ℕ) (p : Place) (v : ℕ) → T (inside p) → w < 2 ^ p .at → v < 2 ^ p .width → putOf w p v ≡ v * 2 ^ p .at + w
+unfolding putOf
+put-on w p v t hw hv = rw (is-true (inside p) t) (with-on w (p .at) (p .width) v hw hv)
 
 -- a word stays a word
 pub put-lt : (w : ℕ) (p : Place) (v : ℕ) → w < 2 ^ 32 → putOf w p v < 2 ^ 32

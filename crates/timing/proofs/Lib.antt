@@ -1,4 +1,5 @@
-pub mod Tests
 pub mod Quotients
 pub mod Rows
 pub mod Round
+pub mod Fits
+pub mod Cases

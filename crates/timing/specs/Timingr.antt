@@ -2,7 +2,7 @@
 use Prim.Native.Nat.{ℕ}
 use mathlib.Core.Bool.{cond, _&&_}
 use lib.Dec.{leb}
-use Rattle.fields.specs.Field.{getOf, putOf}
+use Rattle.fields.specs.Field.{Place, place, getOf, putOf}
 use Rattle.registers.specs.Places.{TIMINGR-PRESC, TIMINGR-SCLDEL, TIMINGR-SDADEL, TIMINGR-SCLH, TIMINGR-SCLL}
 use Rattle.timing.specs.declared.I2cTiming.{I2cTiming}
 use Rattle.timing.specs.declared.RawTimingr.{RawTimingr}
@@ -32,6 +32,10 @@ packOf t =
     cond (leb (t .presc) 15 && (leb (t .scldel) 15 && leb (t .sdadel) 15))
     (Raw (rawOf t))
     (Refused FieldWide)
+
+-- Bits 24 to 27 belong to no field: unpacking leaves them out.
+abbrev pub reserved : Place
+reserved = place 24 4
 
 unfoldable pub unpackOf : RawTimingr → I2cTiming
 unpackOf r =

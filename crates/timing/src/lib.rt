@@ -143,7 +143,14 @@ fn band_of(frequency: u32) -> Band
     if frequency <= 400_000 {
         return row_of(400_000, 8_000_000, 96, 3_000_000, 1_000_000, Shape::Double);
     }
-    row_of(4_294_967_295, 17_000_000, 96, 8_000_000, 4_000_000, Shape::Double)
+    row_of(
+        4_294_967_295,
+        17_000_000,
+        96,
+        8_000_000,
+        4_000_000,
+        Shape::Double,
+    )
 }
 
 // x held to 1 .. 15.
@@ -166,7 +173,7 @@ fn clock_delay(x: u32) -> u8
     if x < 5 {
         return 4;
     }
-    if x > 15 {
+    if x > 16 {
         return 15;
     }
     (x - 1) as u8

@@ -11,8 +11,12 @@ use Rattle.fields.proofs.get_u8.Tie as tie
 
 cast-result : tie.Need-cast-result
 cast-result c =
-    omega (arith, c .get .ensures, get-lt (c .before .before .args .word) (place (c .before .before .args .at) (c .before .least .result)),
-      pow-mono {i = c .before .least .result} {j = 8} (omega (arith, c .before .least .ensures)))
+    omega (
+      arith,
+      c .get .ensures,
+      get-lt (c .before .before .args .word) (place (c .before .before .args .at) (c .before .least .result)),
+      pow-mono {i = c .before .least .result} {j = 8} (omega (arith, c .before .least .ensures)),
+    )
 
 pub get-u8-spec : {M : Type 1} → statement M
 get-u8-spec =

@@ -1,5 +1,5 @@
 -- `timing::band_of` meets its contract: each row by the tests that led there. Assumes nothing.
-use Rattle.timing.proofs.Tests.{tests}
+use Rattle.fields.proofs.Tests.{tests}
 use Rattle.timing.specs.Bands.{bandOf}
 use borrow.Author.Needs.{needs}
 use Rattle.timing.proofs.band_of.Statement.{statement}

@@ -1,5 +1,5 @@
 -- `timing::calc_timing_params` meets its contract: each return by the tests that led there. Assumes nothing.
-use Rattle.timing.proofs.Tests.{tests}
+use Rattle.fields.proofs.Tests.{tests}
 use Rattle.timing.proofs.Rows.{usable}
 use Rattle.timing.specs.Bands.{timingOf}
 use Rattle.timing.specs.Bounds.{Usable}

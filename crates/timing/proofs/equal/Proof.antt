@@ -1,5 +1,5 @@
 -- `timing::equal` meets its contract: each return by the test that led there. Assumes nothing.
-use Rattle.timing.proofs.Tests.{tests}
+use Rattle.fields.proofs.Tests.{tests}
 use borrow.Author.Needs.{needs}
 use Rattle.timing.proofs.equal.Statement.{statement}
 use Rattle.timing.proofs.equal.Tie as tie

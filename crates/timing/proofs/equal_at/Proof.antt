@@ -1,5 +1,5 @@
 -- `timing::equal_at` meets its contract: each return by the test that led there. Assumes nothing.
-use Rattle.timing.proofs.Tests.{tests}
+use Rattle.fields.proofs.Tests.{tests}
 use Rattle.timing.specs.Bands.{equalAt}
 use borrow.Author.Needs.{needs}
 use Rattle.timing.proofs.equal_at.Statement.{statement}

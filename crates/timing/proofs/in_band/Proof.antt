@@ -1,5 +1,5 @@
 -- `timing::in_band` meets its contract: each return by the tests that led there. Assumes nothing.
-use Rattle.timing.proofs.Tests.{tests}
+use Rattle.fields.proofs.Tests.{tests}
 use Rattle.timing.specs.Bands.{inBandOf}
 use borrow.Author.Needs.{needs}
 use Rattle.timing.proofs.in_band.Statement.{statement}

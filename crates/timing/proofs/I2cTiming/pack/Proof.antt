@@ -1,6 +1,6 @@
 -- `I2cTiming::pack` meets its contract: each return by the tests that led there. Assumes nothing.
 
-use Rattle.timing.proofs.Tests.{tests}
+use Rattle.fields.proofs.Tests.{tests}
 use Rattle.timing.specs.Timingr.{packOf}
 use borrow.Author.Needs.{needs}
 use Rattle.timing.proofs.I2cTiming.pack.Statement.{statement}

@@ -1,0 +1,93 @@
+//! What both sides answer, and the differences between them.
+
+use std::collections::BTreeMap;
+use std::fmt;
+
+use oracle::{unpack, Fields};
+
+/// A TIMINGR word, or why there is none.
+pub type Answer = Result<u32, Refusal>;
+
+/// A refusal by document 01's number.
+#[derive(Clone, Copy, Debug, PartialEq, Eq)]
+pub struct Refusal(pub u32);
+
+impl Refusal {
+    /// Document 01's words for refusals 1 to 7.
+    pub fn words(self) -> &'static str {
+        match self.0 {
+            1 => "no speed",
+            2 => "clock over",
+            3 => "ratio",
+            4 => "clock slow",
+            5 => "speed low",
+            6 => "no setup",
+            7 => "field wide",
+            _ => "not of the timing",
+        }
+    }
+}
+
+/// An answer as the stored files have it.
+pub struct Shown(pub Answer);
+
+impl fmt::Display for Shown {
+    fn fmt(&self, f: &mut fmt::Formatter) -> fmt::Result {
+        match self.0 {
+            Ok(timingr) => {
+                let Fields {
+                    presc,
+                    scldel,
+                    sdadel,
+                    sclh,
+                    scll,
+                } = unpack(timingr);
+                write!(
+                    f,
+                    "0x{timingr:08X} presc {presc} scldel {scldel} sdadel {sdadel} \
+                     sclh {sclh} scll {scll}"
+                )
+            }
+            Err(refusal) => write!(f, "refused {} {}", refusal.0, refusal.words()),
+        }
+    }
+}
+
+/// Counts differences and keeps the smallest few.
+#[derive(Default)]
+pub struct Differences {
+    count: u64,
+    smallest: BTreeMap<u64, String>,
+}
+
+impl Differences {
+    const SHOWN: usize = 5;
+
+    pub fn count(&self) -> u64 {
+        self.count
+    }
+
+    /// Holds what was given for an input of this size to what it should be.
+    pub fn compare<T: PartialEq>(
+        &mut self,
+        size: u64,
+        expected: T,
+        given: T,
+        describe: impl FnOnce(T, T) -> String,
+    ) {
+        if expected != given {
+            self.count += 1;
+            let place = self.smallest.entry(size);
+            place.or_insert_with(|| describe(expected, given));
+            if self.smallest.len() > Self::SHOWN {
+                self.smallest.pop_last();
+            }
+        }
+    }
+
+    pub fn print(&self) {
+        for difference in self.smallest.values() {
+            println!("{difference}");
+        }
+    }
+}

@@ -1,0 +1,125 @@
+// Numbers as text in ASCII: a number read and written, and a text cut into words.
+ghost use mathlib.Core.Path.{_≡_};
+ghost use Prim.Native.Nat.{_≤_, _<_};
+ghost use Rattle.numerals.specs.Numbers.{digitOf, numberOf, isHex, parsedOf, hexDigitOf, hexOf};
+ghost use Rattle.numerals.specs.Words.{isBlank, blankIs, dropWhile, wordOf, afterWord};
+
+pub enum Parsed {
+    Number(u32),
+    NotNumber,
+}
+
+// The number that all of `s` writes: decimal digits, or `0x` or `0X` and hexadecimal digits.
+pub fn parse(s: &[u8]) -> Parsed
+    ensures { λ r. ⌜ r ≡ parsedOf (now (s .entry)) ⌝ }
+{
+    if is_hex(s) {
+        number(&s[2..], 16)
+    } else {
+        number(s, 10)
+    }
+}
+
+fn is_hex(s: &[u8]) -> bool
+    ensures { λ r. ⌜ r ≡ isHex (now (s .entry)) ⌝ }
+{
+    if s.len() < 2 {
+        return false;
+    }
+    s[0] == b'0' && (s[1] == b'x' || s[1] == b'X')
+}
+
+// The number that `s` writes in a base. The value has 64 bits, which hold it with one digit too many.
+fn number(s: &[u8], base: u64) -> Parsed
+    requires { ⌜ (1 ≤ base) × (base ≤ 16) ⌝ }
+    ensures { λ r. ⌜ r ≡ numberOf base (now (s .entry)) ⌝ }
+{
+    if s.len() == 0 {
+        return Parsed::NotNumber;
+    }
+    let mut value: u64 = 0;
+    for i in 0..s.len() {
+        let d = digit(s[i]);
+        if d >= base {
+            return Parsed::NotNumber;
+        }
+        value = value * base + d;
+        if value > 4_294_967_295 {
+            return Parsed::NotNumber;
+        }
+    }
+    Parsed::Number(value as u32)
+}
+
+fn digit(b: u8) -> u64
+    ensures { λ r. ⌜ r ≡ digitOf b ⌝ }
+{
+    match b {
+        b'0'..=b'9' => (b - b'0') as u64,
+        b'A'..=b'F' => (b - b'A' + 10) as u64,
+        b'a'..=b'f' => (b - b'a' + 10) as u64,
+        _ => 16,
+    }
+}
+
+// `n` in eight hexadecimal digits, the letters capital.
+pub fn hex(n: u32) -> [u8; 8]
+    ensures { λ r. ⌜ r ≡ hexOf 8 n ⌝ }
+{
+    let mut text = [0u8; 8];
+    let mut rest = n;
+    let mut i = 8;
+    while i > 0 {
+        i -= 1;
+        text[i] = hex_digit(rest % 16);
+        rest /= 16;
+    }
+    text
+}
+
+fn hex_digit(d: u32) -> u8
+    requires { ⌜ d < 16 ⌝ }
+    ensures { λ r. ⌜ r ≡ hexDigitOf d ⌝ }
+{
+    if d < 10 {
+        b'0' + d as u8
+    } else {
+        b'A' + (d as u8 - 10)
+    }
+}
+
+// The first word of `s`, empty where `s` has none.
+pub fn word(s: &[u8]) -> &[u8]
+    ensures { λ r. ⌜ now r ≡ wordOf (now (s .entry)) ⌝ }
+{
+    let start = skip(s, true);
+    let rest = skip(start, false);
+    &start[..start.len() - rest.len()]
+}
+
+// What follows the first word.
+pub fn after_word(s: &[u8]) -> &[u8]
+    ensures { λ r. ⌜ now r ≡ afterWord (now (s .entry)) ⌝ }
+{
+    skip(skip(s, true), false)
+}
+
+// What is left of `s` past the blanks at its start, or past the bytes there that are none.
+fn skip(s: &[u8], blank: bool) -> &[u8]
+    ensures { λ r. ⌜ now r ≡ dropWhile (blankIs blank) (now (s .entry)) ⌝ }
+{
+    let mut rest = s;
+    while rest.len() > 0 {
+        if is_blank(rest[0]) != blank {
+            return rest;
+        }
+        rest = &rest[1..];
+    }
+    rest
+}
+
+fn is_blank(b: u8) -> bool
+    ensures { λ r. ⌜ r ≡ isBlank b ⌝ }
+{
+    b == b' ' || b'\t' <= b && b <= b'\r'
+}
