@@ -11,34 +11,34 @@ use Rattle.timing.specs.Timingr.{wordOf}
 use Rattle.timing.specs.declared.Timed.{Timed}
 use Rattle.timing.specs.declared.Timed.the-variants.{Timing, Refused}
 
-data Answer : Type 0 where
+pub data Answer : Type 0 where
   word : ℕ → Answer
   refused : ℕ → Answer
 
-abbrev answerOf : Timed → Answer
+abbrev pub answerOf : Timed → Answer
 answerOf (Timing t) = word (wordOf t)
 answerOf (Refused why) = refused (numberOf why)
 
 -- what is asked: a timing of clock and frequency, OAR1 of an own address, OAR2 of a secondary one and its mask
-data Question : Type 0 where
+pub data Question : Type 0 where
   timing : ℕ → ℕ → Question
   oar1 : ℕ → Question
   oar2 : ℕ → ℕ → Question
 
-abbrev ask : Question → Answer
+abbrev pub ask : Question → Answer
 ask (timing clock frequency) = answerOf (timingOf clock frequency)
 ask (oar1 own) = word (sevenBitOwn own)
 ask (oar2 address m) = word (masked address m)
 
-record Case : Type 0 where
-  question : Question
-  answer : Answer
+pub record Case : Type 0 where
+  pub question : Question
+  pub answer : Answer
 
 infix 10 _gives_
-abbrev _gives_ : Question → Answer → Case
+abbrev pub _gives_ : Question → Answer → Case
 q gives a = record { question = q; answer = a }
 
-abbrev cases : List Case
+abbrev pub cases : List Case
 cases =
     (timing 250000000 400000 gives word 0x60FB1C39)
     ∷ (timing 250000000 100000 gives word 0xF0F74D4D)
@@ -54,6 +54,6 @@ cases =
     ∷ (oar2 0x21 2 gives word 0x342)
     ∷ []
 
-proved-cases : map (λ (c : Case). ask (c .question)) cases ≡ map (λ (c : Case). c .answer) cases
+pub proved-cases : map (λ (c : Case). ask (c .question)) cases ≡ map (λ (c : Case). c .answer) cases
 unfolding timingOf bandOf inBandOf equalAt doubleAt putOf withBits
 proved-cases = refl

@@ -56,7 +56,8 @@ pub enum Timed {
 }
 
 impl I2cTiming {
-    fn word(self) -> RawTimingr
+    // The word of the fields' low bits.
+    pub fn word(self) -> RawTimingr
         ensures { λ r. ⌜ r ≡ rawOf self ⌝ }
     {
         let w = Timingr(Timingr::RESET)

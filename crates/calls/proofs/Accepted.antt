@@ -1,0 +1,135 @@
+-- Accepted saved calls stay accepted, whatever is answered: what row 13 asks holds where a call begins, and after each
+-- of its accesses. Assumes nothing.
+use Prim.Native.Nat.{ℕ, _+_, _≤_, _<_, max}
+use native.Mathlib.Omega.{arith}
+use mathlib.Core.Path.{subst⁻¹, _≡_, refl}
+use mathlib.Core.Bool.{not, _||_}
+use mathlib.Core.List.{List}
+use lib.Dec.{T, T-not, eqb, ltb, ltb→lt, lt→ltb, leb→le, le→leb, eqb-refl, nleb→lt}
+use lib.ListN.{length}
+use Rattle.fields.proofs.Laws.{and-l, and-r}
+use Rattle.calls.specs.Calls.{Request, numberOf, call, transaction, receives, transmits}
+use Rattle.calls.specs.Pieces.{Piece, piecesOf, viewOf}
+use Rattle.calls.specs.Steps.{thenAt, applyOf, is, noted, afterOf, startAt, beginAt, beginOf}
+use Rattle.calls.specs.Refusals.{some, has, takes, accepts}
+use Rattle.calls.specs.declared.SavedCall.{SavedCall}
+use Rattle.calls.specs.declared.Step.{Step}
+use Rattle.calls.specs.declared.Step.the-variants.{Ended, Byte, Address}
+use Rattle.calls.specs.declared.Then.{Then}
+use Rattle.calls.specs.declared.Then.the-variants.{Goes, Loads, Notes, Next, Enters, Fails, Ends}
+use Rattle.calls.proofs.Logic.{only, only-not, only-if, if-only, and-in, or-0, or-1, or-else, by-test, both}
+use Rattle.calls.proofs.Every.{implied}
+pub use Rattle.calls.proofs.Every.{is-eq}
+use Rattle.calls.proofs.Fits.{Fits, plain, fits}
+use Rattle.calls.proofs.Views.{notedIn, after-noted, thereIn, sizeIn}
+
+-- what row 13 leaves of a saved call that has not ended
+pub record Known (q : Request) (s : SavedCall) : Type 0 where
+  pub taken : T (takes q (s .step))
+  pub piece : s .piece < max 1 (length (piecesOf q))
+  pub byte : s .byte ≤ sizeIn q s + 1
+  pub byte-there : only (is (s .step) Byte) (T (thereIn q s))
+
+pub known : (q : Request) (s : SavedCall) → T (accepts q s) → T (not (is (s .step) Ended)) → Known q s
+unfolding accepts
+known q s h n =
+    let r = or-else (is (s .step) Ended) _ (and-r (eqb (s .call) (numberOf (q .call))) _ h) n in
+    search (and-l, and-r, ltb→lt, leb→le, only-if)
+
+accept : (q : Request) (s : SavedCall) → T (eqb (s .call) (numberOf (q .call))) → Known q s → T (accepts q s)
+unfolding accepts
+accept q s c k = search (and-in, or-1, lt→ltb, le→leb, if-only) depth 9
+
+accept-ended : (q : Request) (s : SavedCall) →
+    T (eqb (s .call) (numberOf (q .call))) → T (is (s .step) Ended) → T (accepts q s)
+unfolding accepts
+accept-ended q s c e = search (and-in, or-0)
+
+same-call : (q : Request) (s : SavedCall) → T (accepts q s) → T (eqb (s .call) (numberOf (q .call)))
+unfolding accepts
+same-call q s h = and-l (eqb (s .call) (numberOf (q .call))) _ h
+
+-- what a step notes leaves the piece, and the byte number within its bounds
+pub record Noted (q : Request) (s s′ : SavedCall) : Type 0 where
+  pub call-kept : s′ .call ≡ s .call
+  pub piece : s′ .piece < max 1 (length (piecesOf q))
+  pub byte : s′ .byte ≤ sizeIn q s′ + 1
+
+pub notes-well : (q : Request) (s : SavedCall) (a : ℕ) (t : Step) → Known q s → Noted q s (noted (viewOf q s) s a t)
+notes-well q s a t k =
+    by-test (Noted q s) (is t Byte) (λ _. search arith) (λ _.
+    by-test (Noted q s) (is t Address) (λ _. search) (λ _. search))
+
+no-byte : (q : Request) (s : SavedCall) (u : Step) → T (plain u) → only (is u Byte) (T (thereIn q s))
+no-byte q s u p = search (only-not, and-l)
+
+-- by cases on what follows, not on the steps
+applied : (q : Request) (s₀ s : SavedCall) (a : ℕ) (t : Step) (n : Then) →
+    Noted q s₀ s → Fits q s t n → Known q (applyOf s a n)
+applied q s₀ s a t (Goes u) k f = search
+applied q s₀ s a t (Loads u) k f = search no-byte
+applied q s₀ s a t (Notes o u) k f = search no-byte
+applied q s₀ s a t (Next u) k f =
+    let h : s .piece + 1 < length (piecesOf q) = nleb→lt _ _ (f .why .1) in search (no-byte, arith)
+applied q s₀ s a t (Enters u) k f = search (no-byte, arith)
+applied q s₀ s a t (Fails o) k f = search tt
+applied q s₀ s a t (Ends o) k f = search tt
+
+apply-call : (s : SavedCall) (a : ℕ) (n : Then) → applyOf s a n .call ≡ s .call
+apply-call s a (Goes u) = refl
+apply-call s a (Loads u) = refl
+apply-call s a (Notes o u) = refl
+apply-call s a (Next u) = refl
+apply-call s a (Enters u) = refl
+apply-call s a (Fails o) = refl
+apply-call s a (Ends o) = refl
+
+pub accepted-after : (q : Request) (s : SavedCall) (a : ℕ) → T (accepts q s) → T (accepts q (afterOf q s a))
+unfolding afterOf
+accepted-after q s a h =
+    both (is (s .step) Ended)
+    (λ e. let i = is-eq (s .step) Ended e in accept-ended q (afterOf q s a) (rw i (same-call q s h)) (rw i tt))
+    (λ n.
+    let k : Known q s = known q s h n in
+    let s′ : SavedCall = notedIn q s a in
+    let t : Then = thenAt (q .call) (q .words) (viewOf q s′) s′ a (s .step) in
+    let m : Noted q s s′ = notes-well q s a (s .step) k in
+    subst⁻¹ (λ (x : SavedCall). T (accepts q x)) (after-noted q s a)
+    (accept q (applyOf s′ a t) (rw (apply-call s′ a t, m .call-kept) (same-call q s h))
+    (applied q s s′ a (s .step) t m (fits q s′ a (s .step) (m .piece) n (k .taken)))))
+
+-- a call with a piece moves bytes
+some-target : (q : Request) → T (some q) → T (not (transaction (q .call))) → T (receives (q .call) || transmits (q .call))
+unfolding piecesOf
+some-target q h n =
+    by-test P (transaction (q .call)) (λ x _. absurd (T-not (transaction (q .call)) n x)) (λ _.
+    by-test P (receives (q .call) || transmits (q .call)) (λ y _. y) (λ _ h. absurd h)) h
+  where
+    P : List Piece → Type 0
+    P ps = T (ltb 0 (length ps)) → T (receives (q .call) || transmits (q .call))
+
+-- what is asked of the step at which a call begins
+record Begins (q : Request) (t : Step) : Type 0 where
+  taken : T (takes q t)
+  no-byte : T (not (is t Byte))
+
+begins : (q : Request) → Begins q (beginAt (q .call) (some q))
+unfolding has call
+begins q = search (by-test (Begins q), at, and-in, or-0, or-1, not-new, some-target) depth 16
+  where
+    at : (t : Step) → T (takes q t) → T (not (is t Byte)) → Begins q t
+    at t h n = record { taken = h; no-byte = n }
+
+    not-new : T (call (q .call) 3) → T (not (call (q .call) 1))
+    not-new = implied q (λ r. call (r .call) 3) (λ r. not (call (r .call) 1)) tt
+
+pub accepted-begin : (q : Request) → T (accepts q (beginOf q))
+unfolding beginOf
+accepted-begin q =
+    accept q (startAt (q .call) (beginAt (q .call) (some q))) (eqb-refl (numberOf (q .call)))
+    (record {
+      taken = begins q .taken;
+      piece = omega arith;
+      byte = omega arith;
+      byte-there = search (only-not, begins q);
+    })

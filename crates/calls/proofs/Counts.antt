@@ -1,0 +1,394 @@
+-- What `done` says of a target transfer is what happened: the bytes that came in, or document 01's count of those put
+-- out. Assumes nothing.
+use Prim.Native.Nat.{ℕ, zero, suc, _+_, _-_, _*_, _/_, _≤_, _<_, min, max}
+use native.Mathlib.Omega.{arith}
+use mathlib.Core.Path.{subst⁻¹, _≡_, refl, sym, ap, ap₂, _∙_}
+use mathlib.Core.Bool.{Bool, true, false, cond, not, _&&_, _||_}
+use mathlib.Core.List.{List, [], _∷_, _++_, append-nil}
+use lib.Dec.{T, T-not, not-T, ltb, ltb→lt, nltb→le, nleb→lt, leb→le}
+use lib.ListN.{length, length-append}
+use Rattle.registers.specs.declared.Register.the-variants.{Txdr}
+use Rattle.calls.specs.Bytes.{writeCount, EndedAs, Count}
+use Rattle.calls.specs.Calls.{Request, call, kinds, manual, transaction, receives, transmits}
+use Rattle.calls.specs.Outcomes.{isDone}
+use Rattle.calls.specs.Pieces.{blocksOf, piecesOf, pieceAt, viewOf}
+use Rattle.calls.specs.Refusals.{listed, takes, has, own, second, enable, peOn, listen, reloadOff}
+use Rattle.calls.specs.Run.{Entry, byteOf, outOf, inOf, Uncut, uncutOf, putOut, takenIn}
+use Rattle.calls.specs.Steps.{countOf, awaited, waitAt, byteOut, byteMoved, thenAt, applyOf, counted, noted, accessAt, accessOf, afterOf, beginOf, is}
+use Rattle.calls.specs.declared.Access.the-variants.{Take, Write}
+use Rattle.calls.specs.declared.Flag.{Flag}
+use Rattle.calls.specs.declared.Flag.the-variants.{Rxne, Txis, Tc, Tcr, Stopf, Never}
+use Rattle.calls.specs.declared.Modify.the-variants.{PeOff, PeOn, Listen, NackSet, ReloadOff, SbcOff, ReloadClear, SbcOn, ReloadOn, NbytesSet}
+use Rattle.calls.specs.declared.Outcome.the-variants.{Done}
+use Rattle.calls.specs.declared.SavedCall.{SavedCall}
+use Rattle.calls.specs.declared.Step.{Step}
+use Rattle.calls.specs.declared.Step.the-variants.{Ended, Begin, StartStatus, StartControl, Wait, Byte, StopClear, BusClear, ArbitrationClear, NackClear, FlushTxis, FlushByte, FlushTxe, Flush, Timing, Own, Secondary, Enable, Delay1, Delay2, Disabled, Event, EventFlush, EventClear, Address, TransferClear, ModifyRead, ModifyWrite}
+use Rattle.calls.specs.declared.Then.{Then}
+use Rattle.calls.specs.declared.Then.the-variants.{Goes, Loads, Notes, Next, Enters, Fails, Ends}
+use Rattle.calls.proofs.Logic.{only, not-and, not-and-1, nor-1, or-0, or-1, or-else, by-test, both}
+use Rattle.calls.proofs.Every.{all, asks, implied, is-eq}
+use Rattle.calls.proofs.Fits.{inEvent, flushOk, Fits, AllRead, all-read}
+use Rattle.calls.proofs.Along.{entryOf, readLog, Keeps, along}
+use Rattle.calls.proofs.Places.{is-true, is-false, transfer-pieces}
+use Rattle.calls.proofs.Bytes.{only-use, not-transmits, not-receives, no-transaction, past, quiet, not-two, not-end, Front, whole, Fresh, by-noted, noted-fresh, Seen, note, unseen, seen-out, seen-got, Inv, at-byte, Taken, step-taken, keeps, begins}
+use Rattle.calls.proofs.Views.{notedIn, after-noted, thereIn, lastIn, sizeIn, placeIn}
+
+abbrev target : Request → Bool
+target q = receives (q .call) || transmits (q .call)
+
+-- ---- The table of steps once more: a transfer that ends as done says the count of the bytes moved, in an event 0
+
+abbrev CountWhy : Request → SavedCall → Step → Then → Type 0
+CountWhy q s t (Goes u) = Unit {0}
+CountWhy q s t (Loads u) = Unit {0}
+CountWhy q s t (Notes o u) = Unit {0}
+CountWhy q s t (Next u) = Unit {0}
+CountWhy q s t (Enters u) = Unit {0}
+CountWhy q s t (Fails o) = Unit {0}
+CountWhy q s t (Ends o) = only (isDone o) (o ≡ Done (cond (inEvent t) 0 (countOf (q .call) s)))
+
+record Counts (q : Request) (s : SavedCall) (t : Step) (n : Then) : Type 0 where
+  why : CountWhy q s t n
+
+-- what no transfer asks for or takes
+absent : (q : Request) (f : Request → Bool) → T (all (λ c. not (target (asks q c)) || not (f (asks q c))) listed) →
+    T (target q) → T (f q) → ⊥
+absent q f t x h = T-not (target q) (implied q f (λ r. not (target r)) t h) x
+
+module _ {q : Request} {s : SavedCall} {t : Step} where
+  test : (c : Bool) {x y : Then} → (T c → Counts q s t x) → (T (not c) → Counts q s t y) → Counts q s t (cond c x y)
+  test = by-test (Counts q s t)
+
+  not-7 : (n : Then) → T (target q) → T (transaction (q .call)) → Counts q s t n
+  unfolding call kinds
+  not-7 n x h = absurd (absent q (λ r. transaction (r .call)) tt x h)
+
+  not-8 : (n : Then) → T (target q) → T (kinds (q .call) 8) → Counts q s t n
+  unfolding call kinds
+  not-8 n x h = absurd (absent q (λ r. kinds (r .call) 8) tt x h)
+
+  not-13 : (n : Then) → T (target q) → T (kinds (q .call) 13) → Counts q s t n
+  unfolding call kinds
+  not-13 n x h = absurd (absent q (λ r. kinds (r .call) 13) tt x h)
+
+ruleset table = (test, not-7, not-8, not-13, tt)
+
+module _ (q : Request) (s : SavedCall) (a : ℕ) (x : T (target q)) where
+  waits : (f : Flag) → Counts q s Wait (waitAt (q .call) (viewOf q s) s a f)
+  waits Rxne = search table depth 16
+  waits Txis = search table depth 16
+  waits Tc = search table depth 16
+  waits Tcr = search table depth 16
+  waits Stopf = search table depth 16
+  waits Never = search table depth 16
+
+  counts : (t : Step) → T (not (is t Ended)) → T (takes q t) → Counts q s t (thenAt (q .call) (q .words) (viewOf q s) s a t)
+  unfolding has call kinds
+  counts Ended h k = absurd h
+  counts Begin h k = search table depth 16
+  counts StartStatus h k = search table depth 16
+  counts StartControl h k = search table depth 16
+  counts Wait h k = let w = waits (awaited (q .call) (viewOf q s) s) in search table depth 16
+  counts Byte h k = search table depth 16
+  counts StopClear h k = search table depth 16
+  counts BusClear h k = search table depth 16
+  counts ArbitrationClear h k = search table depth 16
+  counts NackClear h k = search table depth 16
+  counts FlushTxis h k = search table depth 16
+  counts FlushByte h k = search table depth 16
+  counts FlushTxe h k = search table depth 16
+  counts Flush h k = search table depth 16
+  counts Timing h k = search table depth 16
+  counts Own h k = absurd (absent q (λ r. has r own) tt x k)
+  counts Secondary h k = absurd (absent q (λ r. has r second) tt x k)
+  counts Enable h k = absurd (absent q (λ r. has r enable) tt x k)
+  counts Delay1 h k = search table depth 16
+  counts Delay2 h k = search table depth 16
+  counts Disabled h k = search table depth 16
+  counts Event h k = search table depth 16
+  counts EventFlush h k = search table depth 16
+  counts EventClear h k = search table depth 16
+  counts Address h k = search table depth 16
+  counts TransferClear h k = search table depth 16
+  counts (ModifyRead m) h k = search table depth 16
+  counts (ModifyWrite PeOff) h k = search table depth 16
+  counts (ModifyWrite PeOn) h k = absurd (absent q (λ r. has r peOn) tt x k)
+  counts (ModifyWrite Listen) h k = absurd (absent q (λ r. has r listen) tt x k)
+  counts (ModifyWrite NackSet) h k = search table depth 16
+  counts (ModifyWrite ReloadOff) h k = absurd (absent q (λ r. has r reloadOff) tt x k)
+  counts (ModifyWrite SbcOff) h k = search table depth 16
+  counts (ModifyWrite ReloadClear) h k = search table depth 16
+  counts (ModifyWrite SbcOn) h k = search table depth 16
+  counts (ModifyWrite ReloadOn) h k = search table depth 16
+  counts (ModifyWrite NbytesSet) h k = search table depth 16
+
+-- ---- The pieces of a transfer: blocks of 255, or one
+
+block-size : (w : Bool) (f n i : ℕ) → n ≤ f → pieceAt (blocksOf w f n) i .size ≡ min 255 (n - 255 * i)
+block-size w zero n i h = omega arith
+block-size w (suc f) zero i h = omega arith
+block-size w (suc f) (suc n) zero h = omega arith
+block-size w (suc f) (suc n) (suc i) h = block-size w f (suc n - 255) i (omega arith) ∙ omega arith
+
+block-count : (w : Bool) (f n : ℕ) → n ≤ f → length (blocksOf w f n) ≡ (n + 254) / 255
+block-count w zero n h = omega arith
+block-count w (suc f) zero h = omega arith
+block-count w (suc f) (suc n) h = omega (arith, block-count w f (suc n - 255) (omega arith))
+
+module _ (q : Request) (x : T (target q)) where
+  blocks : T (manual (q .call)) → (i : ℕ) →
+      (pieceAt (piecesOf q) i .size ≡ min 255 (q .size - 255 * i)) × (length (piecesOf q) ≡ (q .size + 254) / 255)
+  blocks m i =
+      rw (transfer-pieces q (no-transaction q x) x, is-true (manual (q .call)) m)
+      (block-size _ (q .size) (q .size) i (omega arith), block-count _ (q .size) (q .size) (omega arith))
+
+  single : T (not (manual (q .call))) → (pieceAt (piecesOf q) 0 .size ≡ q .size) × (length (piecesOf q) ≡ 1)
+  single m = rw (transfer-pieces q (no-transaction q x) x, is-false (manual (q .call)) m) (refl, refl)
+
+  -- all blocks but the last are full
+  full : (i : ℕ) → i + 1 < length (piecesOf q) → pieceAt (piecesOf q) i .size ≡ 255
+  full i l = both (manual (q .call)) (λ m. omega (arith, blocks m i)) (λ m. omega (arith, single m))
+
+-- ---- Where a transfer stands, in block i at byte j, once m bytes are moved
+
+record Stands (q : Request) (m i j : ℕ) : Type 0 where
+  bound : i < max 1 (length (piecesOf q))
+  start : 255 * i ≤ m
+  byte : j ≡ min (m - 255 * i) (pieceAt (piecesOf q) i .size + 1)
+  -- only the last block is passed, and only by filling zeros
+  running : i + 1 < length (piecesOf q) → m < 255 * i + 255
+  within : T (receives (q .call)) → m ≤ 255 * i + pieceAt (piecesOf q) i .size
+
+-- so the count of the bytes moved is document 01's
+counted-in : (q : Request) (m i j : ℕ) → T (receives (q .call)) → Stands q m i j → 255 * i + cond (receives (q .call)) j (j - 1) ≡ m
+counted-in q m i j r s = let w = s .within r in rw (is-true (receives (q .call)) r) (omega (arith, s .byte, w, s .start))
+
+count-from : (start m n size j : ℕ) → j ≡ min (m - start) (size + 1) →
+    size ≤ n - start → (size < n - start → m - start ≤ size) → start + (j - 1) ≡ start + min (m - start - 1) (n - start)
+count-from start m n size j b h f = rw b (ap (λ (k : ℕ). start + k) (capped (m - start) (n - start) h f))
+  where
+    capped : (e rest : ℕ) → size ≤ rest → (size < rest → e ≤ size) → min e (size + 1) - 1 ≡ min (e - 1) rest
+    capped e rest h f =
+        both (ltb size rest)
+        (λ l. let k : e ≤ size = f (ltb→lt size rest l) in omega arith)
+        (λ l. let k : rest ≤ size = nltb→le size rest l in omega arith)
+
+running-block : (n m i k : ℕ) → k ≡ (n + 254) / 255 → i < max 1 k → 255 * i ≤ m → (i + 1 < k → m < 255 * i + 255) →
+    min (m / 255) ((n - 1) / 255) ≡ i
+running-block n m i k e h g f =
+    both (ltb (i + 1) k)
+    (λ l. let y : i + 1 < k = ltb→lt (i + 1) k l in let z : m < 255 * i + 255 = f y in omega arith)
+    (λ l. let y : k ≤ i + 1 = nltb→le (i + 1) k l in omega arith)
+
+counted-out : (q : Request) (m i j : ℕ) → T (transmits (q .call)) → Stands q m i j →
+    255 * i + cond (receives (q .call)) j (j - 1) ≡ writeCount (manual (q .call)) (q .size) m
+counted-out q m i j t s =
+    let x : T (target q) = or-1 (receives (q .call)) (transmits (q .call)) t in
+    rw (is-false (receives (q .call)) (not-receives q t))
+    (both (manual (q .call))
+    (λ h.
+    let p = blocks q x h i in
+    rw (is-true (manual (q .call)) h, running-block (q .size) m i _ (p .1) (s .bound) (s .start) (s .running))
+    (count-from (255 * i) m (q .size) _ j (s .byte) (omega (arith, p .0)) (λ l.
+    let k : m < 255 * i + 255 = s .running (omega (arith, p .1, p .0)) in omega (arith, p .0))))
+    (λ h.
+    let p = single q x h in
+    let z : i ≡ 0 = omega (arith, s .bound) in
+    rw (is-false (manual (q .call)) h, z)
+    (count-from 0 m (q .size) _ j (rw z at (s .byte)) (omega (arith, p .0)) (λ l. absurd (omega (arith, p .0))))))
+
+-- and never more than was put out, nor than the buffer has
+count-most : (a : Bool) (n m : ℕ) → writeCount a n m ≤ min m n
+count-most true n m = from (255 * min (m / 255) ((n - 1) / 255)) (omega arith) (omega arith)
+  where
+    from : (start : ℕ) → start ≤ m → start ≤ n → start + min (m - start - 1) (n - start) ≤ min m n
+    from start h g = omega arith
+count-most false n m = omega arith
+
+-- ---- Each access keeps it
+
+abbrev movedOf : Request → Seen → ℕ
+movedOf q z = cond (receives (q .call)) (length (z .got)) (length (z .out))
+
+abbrev StandsAt : Request → ℕ → SavedCall → Type 0
+StandsAt q m s = Stands q m (s .piece) (s .byte)
+
+-- a byte that is there and no filling zero
+own-byte : (q : Request) (s : SavedCall) → T (thereIn q s) → T (not (transmits (q .call) && lastIn q s)) → s .byte < sizeIn q s
+own-byte q s h n = ltb→lt (s .byte) (sizeIn q s) (other (ltb (s .byte) (sizeIn q s)) (transmits (q .call) && lastIn q s) h n)
+  where
+    other : (x y : Bool) → T (x || y) → T (not y) → T x
+    other true y h n = tt
+    other false y h n = absurd (T-not y n h)
+
+module _ (q : Request) (s : SavedCall) (a m : ℕ) (x : T (target q)) (v : StandsAt q m s) where
+  abbrev later : Then → Type 0
+  later n = StandsAt q (m + 1) (applyOf (counted (viewOf q s) s) a n)
+
+  -- BYTE is one more, in the same block or, where this one is full, in the next
+  same-block : T (thereIn q s) → (s .piece + 1 < length (piecesOf q) → m + 1 < 255 * s .piece + 255) →
+      StandsAt q (m + 1) (counted (viewOf q s) s)
+  same-block h f = record {
+    bound = v .bound;
+    start = omega (arith, v .start);
+    byte = omega (arith, v .byte, v .start);
+    running = f;
+    within = λ r.
+        let l = own-byte q s h (not-and (transmits (q .call)) (lastIn q s) (not-transmits q r)) in
+        omega (arith, l, v .byte, v .start);
+  }
+
+  next-block : T (not (lastIn q s)) → T (not (thereIn q (counted (viewOf q s) s))) → Stands q (m + 1) (s .piece + 1) 0
+  next-block l n =
+      let i : s .piece + 1 < length (piecesOf q) = nleb→lt (length (piecesOf q)) (s .piece + 1) l in
+      let e : m + 1 ≡ 255 * (s .piece + 1) =
+      omega (arith, past q (counted (viewOf q s) s) n, full q x (s .piece) i, v .running i, v .byte) in
+      search arith
+
+  stands-byte : T (thereIn q s) → later (byteMoved (q .call) (viewOf q s) (counted (viewOf q s) s))
+  stands-byte h =
+      by-test later (transaction (q .call) || thereIn q (counted (viewOf q s) s))
+      (λ c. same-block h (λ l.
+      let n : T (not (lastIn q s)) = not-T (lastIn q s) (λ k. omega (arith, leb→le (length (piecesOf q)) _ k)) in
+      let y : T (thereIn q (counted (viewOf q s) s)) = or-else (transaction (q .call)) _ c (no-transaction q x) in
+      let j = own-byte q (counted (viewOf q s) s) y (not-and-1 (transmits (q .call)) (lastIn q s) n) in
+      omega (arith, j, full q x (s .piece) l, v .byte, v .start))) (λ n.
+      by-test later (lastIn q s)
+      (λ l.
+      let y = same-block h (λ k. absurd (omega (arith, leb→le (length (piecesOf q)) _ l))) in
+      by-test later (receives (q .call) && not (manual (q .call))) (λ _. y) (λ _. y))
+      (λ l. next-block l (nor-1 (transaction (q .call)) (thereIn q (counted (viewOf q s) s)) n)))
+
+  -- any other step moves none
+  stands-after : (t : Step) (n : Then) → Fresh t s → Fits q s t n → StandsAt q m (applyOf s a n)
+  stands-after t (Goes u) e f = v
+  stands-after t (Loads u) e f = v
+  stands-after t (Notes o u) e f = v
+  stands-after t (Next u) e f =
+      let l : s .piece + 1 < length (piecesOf q) = nleb→lt (length (piecesOf q)) (s .piece + 1) (f .why .1) in
+      absurd (omega (arith, past q s (f .why .0), full q x (s .piece) l, v .running l, v .byte))
+  stands-after t (Enters u) e f = let z = e (f .why .0) in rw (z .0, z .1) at v
+  stands-after t (Fails o) e f = v
+  stands-after t (Ends o) e f = v
+
+none-moved : (q : Request) (i j : ℕ) → (i ≡ 0) × (j ≡ 0) → 255 * i + cond (receives (q .call)) j (j - 1) ≡ 0
+none-moved q i j z = by-test (λ n. 255 * i + n ≡ 0) (receives (q .call)) (λ _. omega arith) (λ _. omega arith)
+
+-- an ended transfer that is done says this count
+abbrev Says : Request → SavedCall → Type 0
+Says q s = T (is (s .step) Ended) → T (isDone (s .outcome)) → s .outcome ≡ Done (countOf (q .call) s)
+
+says-after : (q : Request) (s : SavedCall) (a : ℕ) (t : Step) (n : Then) →
+    Fresh t s → Fits q s t n → Counts q s t n → Says q (applyOf s a n)
+says-after q s a t (Goes u) z f c e d = absurd (T-not (is u Ended) (f .why .2) e)
+says-after q s a t (Loads u) z f c e d = absurd (not-end u (f .why) e)
+says-after q s a t (Notes o u) z f c e d = absurd (not-end u (f .why) e)
+says-after q s a t (Next u) z f c e d = absurd (not-end u (f .why .2) e)
+says-after q s a t (Enters u) z f c e d = absurd (not-end u (f .why .1) e)
+says-after q s a t (Fails o) z f c e d = absurd e
+says-after q s a t (Ends o) z f c e d =
+    let w = only-use (isDone o) _ d (c .why) in
+    w ∙ ap Done (by-test (λ n. n ≡ countOf (q .call) s) (inEvent t) (λ i. sym (none-moved q _ _ (z i))) (λ _. refl))
+
+-- the entry of BYTE is one more, that of any other step none
+module _ (q : Request) (s : SavedCall) (b : List ℕ) (a : ℕ) (z : Seen) (x : T (target q)) where
+  abbrev after : Step → ℕ
+  after t = movedOf q (note z (entryOf (accessAt (q .call) (q .words) (viewOf q s) b s t) a))
+
+  moved-byte : s .piece < length (piecesOf q) → z .two ≡ false → after Byte ≡ movedOf q z + 1
+  unfolding AllRead
+  moved-byte p h = rw (all-read q (no-transaction q x) (s .piece) p, h) (go (receives (q .call)))
+    where
+      e : Bool → Entry
+      e r = entryOf (cond r (Take (placeIn q s)) (Write Txdr (byteOut (viewOf q s) b s))) a
+
+      go : (r : Bool) → cond r (length (z .got ++ inOf (e r))) (length (z .out ++ outOf false (e r))) ≡
+          cond r (length (z .got)) (length (z .out)) + 1
+      go true = length-append (z .got) (byteOf a ∷ [])
+      go false = length-append (z .out) (byteOut (viewOf q s) b s ∷ [])
+
+  moved-quiet : (t : Step) → T (not (is t Byte)) → T (flushOk t (z .two) (z .one)) → after t ≡ movedOf q z
+  moved-quiet t n f = let k = quiet q b s a t (z .two) (z .one) n f in simp (k .out, k .got, append-nil)
+
+  stands-moved : (t : Step) → T (is t Byte) → T (flushOk t (z .two) (z .one)) →
+      T (thereIn q s) × (s .piece < length (piecesOf q)) → StandsAt q (movedOf q z) s →
+      StandsAt q (after t) (applyOf (noted (viewOf q s) s a t) a (thenAt (q .call) (q .words) (viewOf q (noted (viewOf q s) s a t)) (noted (viewOf q s) s a t) a t))
+  stands-moved t y h p v =
+      let e = is-eq t Byte y in
+      rw (e, moved-byte (p .1) (not-two (z .two) (z .one) (rw e at h))) (stands-byte q s a (movedOf q z) x v (p .0))
+
+  stands-step : T (flushOk (s .step) (z .two) (z .one)) → Fresh (s .step) s → Taken q s a → StandsAt q (movedOf q z) s →
+      StandsAt q (after (s .step)) (afterOf q s a)
+  stands-step h r k v =
+      let t : Step = s .step in
+      subst⁻¹ (StandsAt q (after t)) (after-noted q s a)
+      (both (is t Byte)
+      (λ y. stands-moved t y h (at-byte q s (k .known) y) v)
+      (λ n. rw (moved-quiet t n h)
+      (stands-after q (noted (viewOf q s) s a t) a (movedOf q z) x (by-noted q s a t (Stands q (movedOf q z)) n v)
+      t _ (noted-fresh q s a t r) (k .fits))))
+
+record Counting (q : Request) (x : Front) (z : Seen) (s : SavedCall) (b : List ℕ) : Type 0 where
+  inv : Inv q x z s b
+  stands : StandsAt q (movedOf q z) s
+  says : Says q s
+
+counting-keeps : (q : Request) (x : Front) → T (target q) → Keeps q Seen note (Counting q x)
+unfolding accessOf
+counting-keeps q x y z s b a v h =
+    let k : Taken q s a = step-taken q b s a (v .inv .accepted) h in
+    let t : Step = s .step in
+    record {
+      inv = keeps q x z s b a (v .inv) h;
+      stands = stands-step q s b a z y (v .inv .flush) (v .inv .fresh) k (v .stands);
+      says = subst⁻¹ (Says q) (after-noted q s a)
+          (says-after q (notedIn q s a) a t _ (noted-fresh q s a t (v .inv .fresh)) (k .fits)
+          (counts q (notedIn q s a) a y t (k .live) (k .known .taken)));
+    }
+
+counting-begins : (q : Request) (b : List ℕ) → Counting q (whole q b) unseen (beginOf q) b
+unfolding beginOf
+counting-begins q b = record {
+  inv = begins q b;
+  stands = by-test (λ n. Stands q n 0 0) (receives (q .call)) (λ _. at-start) (λ _. at-start);
+  says = λ _ _. ap Done (sym (none-moved q 0 0 (refl, refl)));
+}
+  where
+    at-start : Stands q 0 0 0
+    at-start = search arith
+
+-- ---- What it says of the uncut run
+
+module _ (q : Request) (k : ℕ) (b l : List ℕ) where
+  abbrev U : Uncut
+  U = uncutOf q k (beginOf q) b l
+
+  abbrev seen : Seen
+  seen = readLog note unseen (U .log)
+
+  holds : T (target q) → Counting q (whole q b) seen (U .saved) (U .buffer)
+  holds x =
+      along q Seen note (Counting q (whole q b)) (counting-keeps q (whole q b) x)
+      k unseen (beginOf q) b l (counting-begins q b)
+
+  count-is : T (target q) → (n : ℕ) → EndedAs (Done n) U → n ≡ countOf (q .call) (U .saved)
+  count-is x n e =
+      let d : U .saved .outcome ≡ Done (countOf (q .call) (U .saved)) = holds x .says (rw (e .ended) tt) (rw (e .outcome) tt) in
+      cc (e .outcome)
+
+  pub done-count : (n : ℕ) → q .size ≡ length b → EndedAs (Done n) U → Count q b U n
+  done-count n z e = record {
+    received = λ r.
+        let x : T (target q) = or-0 (receives (q .call)) (transmits (q .call)) r in
+        let m : movedOf q seen ≡ length (takenIn (U .log)) = rw (is-true (receives (q .call)) r, seen-got unseen (U .log)) in
+        count-is x n e ∙ counted-in q (movedOf q seen) _ _ r (holds x .stands) ∙ m;
+    transmitted = transmitted;
+    at-most = λ t. rw (transmitted t) (count-most (manual (q .call)) (length b) (length (putOut (U .log))));
+  }
+    where
+      transmitted : T (transmits (q .call)) → n ≡ writeCount (manual (q .call)) (length b) (length (putOut (U .log)))
+      transmitted t =
+          let x : T (target q) = or-1 (receives (q .call)) (transmits (q .call)) t in
+          let m : movedOf q seen ≡ length (putOut (U .log)) =
+          rw (is-false (receives (q .call)) (not-receives q t), seen-out unseen (U .log)) in
+          count-is x n e ∙ counted-out q (movedOf q seen) _ _ t (holds x .stands) ∙ ap₂ (writeCount (manual (q .call))) z m

@@ -1,0 +1,14 @@
+pub mod Logic
+pub mod Every
+pub mod Views
+pub mod Fits
+pub mod Accepted
+pub mod Along
+pub mod Counter
+pub mod Places
+pub mod Bytes
+pub mod Moved
+pub mod Counts
+pub mod Cut
+pub mod Demand
+pub mod Cases

@@ -1,0 +1,100 @@
+-- The listed calls with document 01's numbers, what each has to do with bytes and events, and what is asked of one.
+-- Assumes nothing.
+use Prim.Native.Nat.{ℕ, _+_}
+use mathlib.Core.Bool.{Bool, true, false, cond, not, _&&_, _||_}
+use mathlib.Core.List.{List, [], _∷_}
+use lib.Dec.{eqb, leb}
+use Rattle.calls.specs.declared.Ack.{Ack}
+use Rattle.calls.specs.declared.Ack.the-variants.{AutoAck, ManualAck}
+use Rattle.calls.specs.declared.Call.{Call}
+use Rattle.calls.specs.declared.Call.the-variants.{New, TargetNew, ConfigureTargetAddresses, EnableTargetEvent, DisableTargetEvent, Reset, Transaction, WaitForEvent, Read, Write, WaitForTargetRead, WaitForTargetWrite, WaitForStop, AckTransfer, NackTransfer}
+use Rattle.calls.specs.declared.AddressMode.{AddressMode}
+use Rattle.calls.specs.declared.AddressMode.the-variants.{AddressMode7bit, AddressMode10bit}
+use Rattle.calls.specs.declared.TargetConfig.{TargetConfig}
+use Rattle.calls.specs.declared.Description.{Description}
+
+-- 8 to 13 mean AutoAck; adding 16 means ManualAck
+abbrev pub byAck : ℕ → Ack → ℕ
+byAck n AutoAck = n
+byAck n ManualAck = n + 16
+
+abbrev pub numberOf : Call → ℕ
+numberOf New = 1
+numberOf TargetNew = 2
+numberOf ConfigureTargetAddresses = 3
+numberOf EnableTargetEvent = 4
+numberOf DisableTargetEvent = 5
+numberOf Reset = 6
+numberOf Transaction = 7
+numberOf (WaitForEvent a) = byAck 8 a
+numberOf (Read a) = byAck 9 a
+numberOf (Write a) = byAck 10 a
+numberOf (WaitForTargetRead a) = byAck 11 a
+numberOf (WaitForTargetWrite a) = byAck 12 a
+numberOf (WaitForStop a) = byAck 13 a
+numberOf AckTransfer = 14
+numberOf NackTransfer = 15
+
+-- The target's configuration, and what its setters change.
+abbrev pub none : ℕ
+none = 0xFFFFFFFF
+
+abbrev pub configOf : ℕ → TargetConfig
+configOf own = record { own = own; secondary = none; mask = none; ten = false }
+
+abbrev pub tenBit : AddressMode → Bool
+tenBit AddressMode7bit = false
+tenBit AddressMode10bit = true
+
+abbrev pub withOwn : ℕ → TargetConfig → TargetConfig
+withOwn own c = record { own = own; secondary = c .secondary; mask = c .mask; ten = c .ten }
+
+abbrev pub withMode : AddressMode → TargetConfig → TargetConfig
+withMode m c = record { own = c .own; secondary = c .secondary; mask = c .mask; ten = tenBit m }
+
+abbrev pub withSecondary : ℕ → TargetConfig → TargetConfig
+withSecondary address c = record { own = c .own; secondary = address; mask = c .mask; ten = c .ten }
+
+abbrev pub withMask : ℕ → TargetConfig → TargetConfig
+withMask bits c = record { own = c .own; secondary = c .secondary; mask = bits; ten = c .ten }
+
+-- by its number
+unfoldable pub call : Call → ℕ → Bool
+call c n = eqb (numberOf c) n
+
+-- by its number in either acknowledge mode
+unfoldable pub kinds : Call → ℕ → Bool
+kinds c n = call c n || call c (n + 16)
+
+abbrev pub transaction : Call → Bool
+transaction c = call c 7
+
+unfoldable pub manual : Call → Bool
+manual c = leb 16 (numberOf c)
+
+-- the target calls that fill the buffer, those that put it out, and those that await an event first
+abbrev pub receives : Call → Bool
+receives c = kinds c 9 || kinds c 11
+
+abbrev pub transmits : Call → Bool
+transmits c = kinds c 10 || kinds c 12
+
+abbrev pub eventful : Call → Bool
+eventful c = kinds c 8 || (kinds c 11 || (kinds c 12 || kinds c 13))
+
+-- calls 2 and 3 always have a configuration, 1 where it is meant
+abbrev pub configured : Call → Description → Bool
+configured c d = not (call c 1) || d .configured
+
+abbrev pub hasSecondary : Description → Bool
+hasSecondary d = not (eqb (d .config .secondary) none)
+
+abbrev pub hasMask : Description → Bool
+hasMask d = not (eqb (d .config .mask) none)
+
+-- A listed call with all that describes it: the words, the operation list, and the lent buffer's length.
+pub record Request : Type 0 where
+  pub call : Call
+  pub words : Description
+  pub operations : List ℕ
+  pub size : ℕ

@@ -1,0 +1,10 @@
+pub mod Calls
+pub mod Outcomes
+pub mod Pieces
+pub mod Words
+pub mod Steps
+pub mod Refusals
+pub mod Run
+pub mod Advances
+pub mod Bytes
+pub mod Demand

@@ -1,0 +1,198 @@
+-- The refusals of a call and of a saved call: document 01's table, rows 12, 8, 10, 9, 11 and 13 in that order. The first row
+-- that fits is given. Words that do not belong to the call are not looked at. Assumes nothing.
+use Prim.Native.Nat.{ℕ, _+_, max}
+use mathlib.Core.Bool.{Bool, true, false, cond, not, _&&_, _||_}
+use mathlib.Core.List.{List, [], _∷_}
+use lib.Dec.{eqb, ltb, leb}
+use lib.ListN.{length}
+use Rattle.fields.specs.Field.{Place, place, getOf}
+use Rattle.calls.specs.Calls.{Request, numberOf, call, kinds, transaction, manual, receives, transmits, eventful, configured, hasSecondary, hasMask}
+use Rattle.calls.specs.Pieces.{operation-length, piecesOf, viewAt, viewOf, there}
+use Rattle.calls.specs.Steps.{is}
+use Rattle.calls.specs.declared.Ack.the-variants.{AutoAck, ManualAck}
+use Rattle.calls.specs.declared.Call.{Call}
+use Rattle.calls.specs.declared.Call.the-variants.{New, TargetNew, ConfigureTargetAddresses, EnableTargetEvent, DisableTargetEvent, Reset, Transaction, WaitForEvent, Read, Write, WaitForTargetRead, WaitForTargetWrite, WaitForStop, AckTransfer, NackTransfer}
+use Rattle.calls.specs.declared.Description.{Description}
+use Rattle.calls.specs.declared.Lookup.{Lookup}
+use Rattle.calls.specs.declared.Lookup.the-variants.{Listed, Unlisted}
+use Rattle.calls.specs.declared.Modify.{Modify}
+use Rattle.calls.specs.declared.Modify.the-variants.{PeOff, PeOn, Listen, NackSet, ReloadOff, SbcOff, ReloadClear, SbcOn, ReloadOn, NbytesSet}
+use Rattle.calls.specs.declared.Refusal.{Refusal}
+use Rattle.calls.specs.declared.Refusal.the-variants.{NoSuchCall, Address, List as BadList, Long, Buffer}
+use Rattle.calls.specs.declared.SavedCall.{SavedCall}
+use Rattle.calls.specs.declared.Step.{Step}
+use Rattle.calls.specs.declared.Step.the-variants.{Ended, Begin, StartStatus, StartControl, Wait, Byte, StopClear, BusClear, ArbitrationClear, NackClear, FlushTxis, FlushByte, FlushTxe, Flush, Timing, Own, Secondary, Enable, Delay1, Delay2, Disabled, Event, EventFlush, EventClear, Address as FindAddress, TransferClear, ModifyRead, ModifyWrite}
+use Rattle.calls.specs.declared.Verdict.{Verdict}
+use Rattle.calls.specs.declared.Verdict.the-variants.{Accepted, Refused}
+
+-- the listed call of a number
+abbrev pub listed : List Call
+listed =
+    New ∷ TargetNew ∷ ConfigureTargetAddresses ∷ EnableTargetEvent ∷ DisableTargetEvent ∷ Reset ∷ Transaction
+    ∷ WaitForEvent AutoAck ∷ Read AutoAck ∷ Write AutoAck ∷ WaitForTargetRead AutoAck ∷ WaitForTargetWrite AutoAck ∷ WaitForStop AutoAck
+    ∷ AckTransfer ∷ NackTransfer
+    ∷ WaitForEvent ManualAck ∷ Read ManualAck ∷ Write ManualAck ∷ WaitForTargetRead ManualAck ∷ WaitForTargetWrite ManualAck ∷ WaitForStop ManualAck
+    ∷ []
+
+abbrev pub lookupIn : List Call → ℕ → Lookup
+lookupIn [] n = Unlisted
+lookupIn (c ∷ cs) n = cond (eqb n (numberOf c)) (Listed c) (lookupIn cs n)
+
+unfoldable pub lookupOf : ℕ → Lookup
+lookupOf n = lookupIn listed n
+
+-- 12: "unlisted call, or listen kind not 0 general, 1 primary, 2 secondary"
+abbrev pub noSuchListenKind : Request → Bool
+noSuchListenKind q = (call (q .call) 4 || call (q .call) 5) && ltb 2 (q .words .listen)
+
+-- 8: "7-bit address (secondary included) above 127, 10-bit above 1,023, mask above 6"
+abbrev pub tooWide : Bool → ℕ → Bool
+tooWide ten address = ltb (cond ten 1023 127) address
+
+abbrev pub addressWide : Request → Bool
+addressWide q =
+    (transaction (q .call) && tooWide (q .words .ten) (q .words .address))
+    || (((call (q .call) 1 || (call (q .call) 2 || call (q .call) 3)) && configured (q .call) (q .words))
+    && (tooWide (q .words .config .ten) (q .words .config .own)
+    || ((hasSecondary (q .words) && tooWide false (q .words .config .secondary))
+    || (hasMask (q .words) && ltb 6 (q .words .config .mask)))))
+
+-- 10: "over 64 operations, bits 17 to 31 set, lengths not summing to the buffer"
+abbrev pub lengthOf : ℕ → ℕ
+lengthOf o = getOf o operation-length
+
+abbrev pub total : List ℕ → ℕ
+total [] = 0
+total (o ∷ os) = lengthOf o + total os
+
+abbrev pub anyOf : (ℕ → Bool) → List ℕ → Bool
+anyOf f [] = false
+anyOf f (o ∷ os) = f o || anyOf f os
+
+abbrev pub strangeBits : ℕ → Bool
+strangeBits o = not (eqb (getOf o (place 17 15)) 0)
+
+abbrev pub listWrong : Request → Bool
+listWrong q =
+    transaction (q .call)
+    && (ltb 64 (length (q .operations)) || (anyOf strangeBits (q .operations) || not (eqb (total (q .operations)) (q .size))))
+
+-- 9: "an operation over 255"
+abbrev pub tooLong : ℕ → Bool
+tooLong o = ltb 255 (lengthOf o)
+
+abbrev pub operationLong : Request → Bool
+operationLong q = transaction (q .call) && anyOf tooLong (q .operations)
+
+-- 11: "AutoAck transfer (9 to 12) with an empty buffer, or any buffer over 65,535"
+abbrev pub bufferWrong : Request → Bool
+bufferWrong q =
+    ((call (q .call) 9 || (call (q .call) 10 || (call (q .call) 11 || call (q .call) 12))) && eqb (q .size) 0) || ltb 65535 (q .size)
+
+unfoldable pub verdictOf : Request → Verdict
+verdictOf q =
+    cond (noSuchListenKind q) (Refused NoSuchCall)
+    (cond (addressWide q) (Refused Address)
+    (cond (listWrong q) (Refused BadList)
+    (cond (operationLong q) (Refused Long)
+    (cond (bufferWrong q) (Refused Buffer)
+    (Accepted (q .call))))))
+
+abbrev pub requestOf : Call → Description → List ℕ → ℕ → Request
+requestOf c d ops n = record { call = c; words = d; operations = ops; size = n }
+
+-- what begin and advance both look at: description, operation list, the lent buffer's length
+abbrev pub verdictBy : Lookup → Description → List ℕ → ℕ → Verdict
+verdictBy (Listed c) d ops n = verdictOf (requestOf c d ops n)
+verdictBy Unlisted d ops n = Refused NoSuchCall
+
+unfoldable pub checkOf : Description → List ℕ → ℕ → Verdict
+checkOf d ops n = verdictBy (lookupOf (d .call)) d ops n
+
+-- ---- 13, the saved call: "other call number; or, not ended, a step this call never takes, operation (for a target, block)
+-- number outside the list, or byte number above its length + 1, or no byte there for a step that moves one, filling zeros
+-- apart (a call with none counts as having one empty)"
+
+-- the steps by groups
+pub data Group : Type 0 where
+  any starts move stop errors nack timing own second enable reset events blocks peOff peOn listen nackSet reloadOff manualEvents : Group
+
+abbrev pub modifyGroup : Modify → Group
+modifyGroup PeOff = peOff
+modifyGroup PeOn = peOn
+modifyGroup Listen = listen
+modifyGroup NackSet = nackSet
+modifyGroup ReloadOff = reloadOff
+modifyGroup SbcOff = manualEvents
+modifyGroup ReloadClear = manualEvents
+modifyGroup SbcOn = manualEvents
+modifyGroup ReloadOn = manualEvents
+modifyGroup NbytesSet = blocks
+
+abbrev pub groupOf : Step → Group
+groupOf Ended = any
+groupOf Begin = starts
+groupOf StartStatus = starts
+groupOf StartControl = starts
+groupOf Wait = move
+groupOf Byte = move
+groupOf StopClear = stop
+groupOf BusClear = errors
+groupOf ArbitrationClear = errors
+groupOf NackClear = nack
+groupOf FlushTxis = nack
+groupOf FlushByte = nack
+groupOf FlushTxe = nack
+groupOf Flush = nack
+groupOf Timing = timing
+groupOf Own = own
+groupOf Secondary = second
+groupOf Enable = enable
+groupOf Delay1 = reset
+groupOf Delay2 = reset
+groupOf Disabled = reset
+groupOf Event = events
+groupOf EventFlush = events
+groupOf EventClear = events
+groupOf FindAddress = events
+groupOf TransferClear = blocks
+groupOf (ModifyRead m) = modifyGroup m
+groupOf (ModifyWrite m) = modifyGroup m
+
+-- the call has a piece
+abbrev pub some : Request → Bool
+some q = viewAt (piecesOf q) 0 .some
+
+-- which groups a call takes; a call with no piece takes no step that moves bytes
+unfoldable pub has : Request → Group → Bool
+has q any = true
+has q starts = transaction (q .call) && some q
+has q move = (transaction (q .call) || (receives (q .call) || transmits (q .call))) && some q
+has q stop = eventful (q .call) || (transaction (q .call) && some q)
+has q errors = eventful (q .call) || ((transaction (q .call) || (receives (q .call) || transmits (q .call))) && some q)
+has q nack = (transaction (q .call) || transmits (q .call)) && some q
+has q timing = call (q .call) 1 || call (q .call) 2
+has q own = (call (q .call) 1 || (call (q .call) 2 || call (q .call) 3)) && configured (q .call) (q .words)
+has q second = (call (q .call) 1 || (call (q .call) 2 || call (q .call) 3)) && (configured (q .call) (q .words) && hasSecondary (q .words))
+has q enable = call (q .call) 1
+has q reset = call (q .call) 6
+has q events = eventful (q .call)
+has q blocks = (manual (q .call) && (receives (q .call) || transmits (q .call))) && some q
+has q peOff = call (q .call) 1 || (call (q .call) 2 || call (q .call) 6)
+has q peOn = call (q .call) 2 || call (q .call) 6
+has q listen = call (q .call) 4 || call (q .call) 5
+has q nackSet = call (q .call) 15 || ((receives (q .call) && not (manual (q .call))) && some q)
+has q reloadOff = call (q .call) 14 || call (q .call) 15
+has q manualEvents = manual (q .call) && eventful (q .call)
+
+abbrev pub takes : Request → Step → Bool
+takes q t = has q (groupOf t)
+
+unfoldable pub accepts : Request → SavedCall → Bool
+accepts q s =
+    eqb (s .call) (numberOf (q .call)) &&
+    (is (s .step) Ended ||
+    (takes q (s .step) &&
+    (ltb (s .piece) (max 1 (length (piecesOf q))) &&
+    (leb (s .byte) (viewOf q s .size + 1) &&
+    (not (is (s .step) Byte) || there (q .call) (viewOf q s) s)))))

@@ -1,0 +1,344 @@
+-- What every call does, one register access at a time: the access of each step, and what each answer leads to.
+-- Sections of document 01 are named at the tables; registers, fields and flags are RM0492's. Assumes nothing.
+use Prim.Native.Nat.{ℕ, _+_, _-_, _*_, _^_, min}
+use mathlib.Core.Bool.{Bool, true, false, cond, not, _&&_, _||_}
+use mathlib.Core.List.{List}
+use lib.Dec.{eqb, ltb}
+use lib.ListN.{getD}
+use Rattle.fields.specs.Field.{Place, place, getOf, flagOf, markOf}
+use Rattle.registers.specs.Map.{resetOf}
+use Rattle.registers.specs.Places.{CR1-PE, CR1-ANFOFF, CR2-START, OAR1-OA1, ISR-TXE, ISR-TXIS, ISR-RXNE, ISR-ADDR, ISR-NACKF, ISR-STOPF, ISR-TC, ISR-TCR, ISR-BERR, ISR-ARLO, ISR-DIR, ISR-ADDCODE, ICR-ADDRCF, ICR-NACKCF, ICR-STOPCF, ICR-BERRCF, ICR-ARLOCF}
+use Rattle.registers.specs.declared.Register.the-variants.{Cr1, Cr2, Oar1, Oar2, Timingr, Isr, Icr, Txdr}
+use Rattle.calls.specs.Calls.{Request, numberOf, call, kinds, transaction, manual, receives, transmits, eventful, configured, hasSecondary}
+use Rattle.calls.specs.Outcomes.{isDone, isEventRead, outcomeValue, readdressed}
+use Rattle.calls.specs.Pieces.{piecesOf, viewAt, viewOf, there}
+use Rattle.calls.specs.Words.{cr2Of, timingrOf, oar1Of, oar2Of, registerOf, alterOf}
+use Rattle.calls.specs.declared.Call.{Call}
+use Rattle.calls.specs.declared.Description.{Description}
+use Rattle.calls.specs.declared.Modify.{Modify}
+use Rattle.calls.specs.declared.Modify.the-variants.{PeOff, PeOn, Listen, NackSet, ReloadOff, SbcOff, ReloadClear, SbcOn, ReloadOn, NbytesSet}
+use Rattle.calls.specs.declared.Step.{Step}
+use Rattle.calls.specs.declared.Step.the-variants.{Ended, Begin, StartStatus, StartControl, Wait, Byte, StopClear, BusClear, ArbitrationClear, NackClear, FlushTxis, FlushByte, FlushTxe, Flush, Timing, Own, Secondary, Enable, Delay1, Delay2, Disabled, Event, EventFlush, EventClear, Address, TransferClear, ModifyRead, ModifyWrite}
+use Rattle.calls.specs.declared.Outcome.{Outcome}
+use Rattle.calls.specs.declared.Outcome.the-variants.{Done, Bus, Arbitration, Nack, Stopped, ExpectedWrite, ExpectedRead, EventRead, EventWrite, EventStop}
+use Rattle.calls.specs.declared.Access.{Access}
+use Rattle.calls.specs.declared.Access.the-variants.{Read, Take, Write, Nothing}
+use Rattle.calls.specs.declared.Flag.{Flag}
+use Rattle.calls.specs.declared.Flag.the-variants.{Rxne, Txis, Tc, Tcr, Stopf, Never}
+use Rattle.calls.specs.declared.Then.{Then}
+use Rattle.calls.specs.declared.Then.the-variants.{Goes, Loads, Notes, Next, Enters, Fails, Ends}
+use Rattle.calls.specs.declared.SavedCall.{SavedCall}
+use Rattle.calls.specs.declared.View.{View}
+
+-- ---- The access of each step
+
+-- plain writes: ICR with one flag to clear; ISR with TXE, which empties TXDR; CR1 with the peripheral and its filter on
+abbrev pub clears : Place → Access
+clears p = Write Icr (markOf (resetOf Icr) p true)
+
+abbrev pub flushes : Access
+flushes = Write Isr (markOf (resetOf Isr) ISR-TXE true)
+
+abbrev pub enables : Access
+enables = Write Cr1 (markOf (markOf (resetOf Cr1) CR1-PE true) CR1-ANFOFF false)
+
+-- the byte to put out: the buffer's, or a filling zero
+abbrev pub byteOut : View → List ℕ → SavedCall → ℕ
+byteOut v b s = cond (ltb (s .byte) (v .size)) (getD b (v .start + s .byte) 0) 0
+
+abbrev pub byteAccess : View → List ℕ → SavedCall → Access
+byteAccess v b s = cond (v .reads) (Take (v .start + s .byte)) (Write Txdr (byteOut v b s))
+
+abbrev pub accessAt : Call → Description → View → List ℕ → SavedCall → Step → Access
+accessAt c d v b s Ended = Nothing
+accessAt c d v b s Begin = Write Cr2 (cr2Of d v (not (eqb (s .piece) 0)))
+accessAt c d v b s StartStatus = Read Isr
+accessAt c d v b s StartControl = Read Cr2
+accessAt c d v b s Wait = Read Isr
+accessAt c d v b s Byte = byteAccess v b s
+accessAt c d v b s StopClear = clears ICR-STOPCF
+accessAt c d v b s BusClear = clears ICR-BERRCF
+accessAt c d v b s ArbitrationClear = clears ICR-ARLOCF
+accessAt c d v b s NackClear = clears ICR-NACKCF
+accessAt c d v b s FlushTxis = Read Isr
+accessAt c d v b s FlushByte = Write Txdr 0
+accessAt c d v b s FlushTxe = Read Isr
+accessAt c d v b s Flush = flushes
+accessAt c d v b s Timing = Write Timingr (timingrOf c d)
+accessAt c d v b s Own = Write Oar1 (oar1Of d)
+accessAt c d v b s Secondary = Write Oar2 (oar2Of d)
+accessAt c d v b s Enable = enables
+accessAt c d v b s Delay1 = Read Cr1
+accessAt c d v b s Delay2 = Read Cr1
+accessAt c d v b s Disabled = Read Cr1
+accessAt c d v b s Event = Read Isr
+accessAt c d v b s EventFlush = flushes
+accessAt c d v b s EventClear = clears ICR-ADDRCF
+accessAt c d v b s Address = Read Oar1
+accessAt c d v b s TransferClear = clears ICR-ADDRCF
+accessAt c d v b s (ModifyRead m) = Read (registerOf d m)
+accessAt c d v b s (ModifyWrite m) = Write (registerOf d m) (alterOf c d v (s .word) m)
+
+unfoldable pub accessOf : Request → List ℕ → SavedCall → Access
+accessOf q b s = accessAt (q .call) (q .words) (viewOf q s) b s (s .step)
+
+-- ---- What follows (`a` is the answer to a read)
+
+-- "Every ISR check: BERR, clear, bus; else ARLO, clear, arbitration."
+abbrev pub errorOr : ℕ → Then → Then
+errorOr a t = cond (flagOf a ISR-BERR) (Goes BusClear) (cond (flagOf a ISR-ARLO) (Goes ArbitrationClear) t)
+
+abbrev pub nackOr : ℕ → Then → Then
+nackOr a t = cond (flagOf a ISR-NACKF) (Goes NackClear) t
+
+-- "After an error it waits for STOPF and returns the error, or the newer error if that wait fails." Any error ends another
+-- call than a transaction.
+abbrev pub failing : Call → SavedCall → Bool
+failing c s = transaction c && not (isDone (s .outcome))
+
+abbrev pub failOf : Call → SavedCall → Outcome → Then
+failOf c s o = cond (transaction c && isDone (s .outcome)) (Fails o) (Ends o)
+
+-- The bytes that a target transfer counts: all earlier blocks are whole; of a write one less than those put out of the
+-- block, at least 0. (The byte number is held at the block's length + 1, so the count is capped at the length.)
+abbrev pub countOf : Call → SavedCall → ℕ
+countOf c s = 255 * s .piece + cond (receives c) (s .byte) (s .byte - 1)
+
+-- "Auto read ends with NACK set in CR2, early stop included, errors not."
+abbrev pub transferOver : Call → SavedCall → Then
+transferOver c s = cond (receives c && not (manual c)) (Goes (ModifyRead NackSet)) (Ends (Done (countOf c s)))
+
+abbrev pub notAcknowledged : Call → SavedCall → Then
+notAcknowledged c s = cond (transaction c) (failOf c s Nack) (transferOver c s)
+
+-- into a piece: a transaction writes CR2, a manual transfer sets NBYTES, an automatic one just waits
+abbrev pub entryStep : Call → Step
+entryStep c = cond (transaction c) Begin (cond (manual c) (ModifyRead NbytesSet) Wait)
+
+-- from an event into the transfer, if there is any piece
+abbrev pub transferOf : Call → Bool → Then
+transferOf c some = cond some (Enters (entryStep c)) (Ends (Done 0))
+
+-- "An unfitting event ends 11 and 13 as expected-write (a read), 12 and 13 as expected-read (a write), 11 and 12 as
+-- stopped (a stop)."
+abbrev pub eventOf : Call → Bool → SavedCall → Then
+eventOf c some s =
+    cond (kinds c 8) (Ends (s .outcome))
+    (cond (isEventRead (s .outcome)) (cond (transmits c) (transferOf c some) (Ends ExpectedWrite))
+    (cond (receives c) (transferOf c some) (Ends ExpectedRead)))
+
+abbrev pub stopEvent : Call → Then
+stopEvent c = cond (kinds c 8) (Ends EventStop) (cond (kinds c 13) (Ends (Done 0)) (Ends Stopped))
+
+-- manual: "for DIR 1 writes ICR 0x8, for DIR 0 sets SBC, then RELOAD"
+abbrev pub addressFound : Call → Bool → SavedCall → Then
+addressFound c some s =
+    cond (manual c)
+    (cond (isEventRead (s .outcome)) (Goes EventClear) (Goes (ModifyRead SbcOn)))
+    (eventOf c some s)
+
+-- "If ADDCODE AND 0x7C is 0x78, OAR1 is read and its OA1 field is the address." Bits 2 to 6 of ADDCODE are then 30.
+abbrev pub tenBitHeader : ℕ → Bool
+tenBitHeader code = eqb (getOf code (place 2 5)) 30
+
+abbrev pub findAddress : Call → Bool → SavedCall → Then
+findAddress c some s = cond (tenBitHeader (outcomeValue (s .outcome))) (Goes Address) (addressFound c some s)
+
+-- "On ADDR: if TXE is 0, write ISR 1." Auto then clears ADDR, manual clears SBC.
+abbrev pub clearStep : Call → Step
+clearStep c = cond (manual c) (ModifyRead SbcOff) EventClear
+
+abbrev pub addressEvent : Call → ℕ → Outcome → Then
+addressEvent c a o = cond (flagOf a ISR-TXE) (Notes o (clearStep c)) (Notes o EventFlush)
+
+abbrev pub eventIn : Call → ℕ → Then
+eventIn c a =
+    errorOr a
+    (cond (flagOf a ISR-ADDR)
+    (cond (flagOf a ISR-DIR) (addressEvent c a (EventRead (getOf a ISR-ADDCODE))) (addressEvent c a (EventWrite (getOf a ISR-ADDCODE))))
+    (cond (flagOf a ISR-STOPF) (Goes StopClear) (Goes Event)))
+
+-- The flag that WAIT awaits: STOPF after an error; for a byte RXNE or TXIS; at an operation's end STOPF after the last, TCR
+-- before one of the same direction, else TC.
+abbrev pub awaited : Call → View → SavedCall → Flag
+awaited c v s =
+    cond (failing c s) Stopf
+    (cond (there c v s) (cond (v .reads) Rxne Txis)
+    (cond (transaction c) (cond (v .last) Stopf (cond (v .same) Tcr Tc))
+    Never))
+
+-- "Byte in: RXNE, else STOPF or ADDR gives stopped; NACK is not looked at."
+abbrev pub stopOr : Call → SavedCall → ℕ → Then
+stopOr c s a =
+    cond (flagOf a ISR-STOPF || flagOf a ISR-ADDR)
+    (cond (transaction c) (failOf c s Stopped) (transferOver c s))
+    (Goes Wait)
+
+abbrev pub goesIf : Bool → Step → Then
+goesIf flag t = cond flag (Goes t) (Goes Wait)
+
+abbrev pub nextIf : Bool → Then
+nextIf flag = cond flag (Next Begin) (Goes Wait)
+
+-- "Byte out: NACK is checked, then TXIS." So is NACK in every wait at an operation's end.
+abbrev pub waitAt : Call → View → SavedCall → ℕ → Flag → Then
+waitAt c v s a Rxne = cond (flagOf a ISR-RXNE) (Goes Byte) (stopOr c s a)
+waitAt c v s a Txis = nackOr a (goesIf (flagOf a ISR-TXIS) Byte)
+waitAt c v s a Tc = nackOr a (nextIf (flagOf a ISR-TC))
+waitAt c v s a Tcr = nackOr a (nextIf (flagOf a ISR-TCR))
+waitAt c v s a Stopf = nackOr a (goesIf (flagOf a ISR-STOPF) StopClear)
+waitAt c v s a Never = cond (v .reads) (stopOr c s a) (nackOr a (Goes Wait))
+
+-- a byte was moved (and is counted in s): wait for the next, or go into the next block, or end
+abbrev pub byteMoved : Call → View → SavedCall → Then
+byteMoved c v s =
+    cond (transaction c || there c v s) (Goes Wait)
+    (cond (v .last) (transferOver c s) (Next (entryStep c)))
+
+-- after the own addresses: call 1 enables, call 2 too but by a modify, call 3 is done
+abbrev pub ownThen : Call → Then
+ownThen c = cond (call c 1) (Goes Enable) (cond (call c 2) (Goes (ModifyRead PeOn)) (Ends (Done 0)))
+
+abbrev pub writtenAt : Call → View → SavedCall → Modify → Then
+writtenAt c v s PeOff = cond (call c 6) (Goes Delay1) (Goes Timing)
+writtenAt c v s PeOn = Ends (Done 0)
+writtenAt c v s Listen = Ends (Done 0)
+writtenAt c v s NackSet = cond (call c 15) (Goes (ModifyRead ReloadOff)) (Ends (Done (countOf c s)))
+writtenAt c v s ReloadOff = Ends (Done 0)
+writtenAt c v s SbcOff = Goes (ModifyRead ReloadClear)
+writtenAt c v s ReloadClear = findAddress c (v .some) s
+writtenAt c v s SbcOn = Goes (ModifyRead ReloadOn)
+writtenAt c v s ReloadOn = eventOf c (v .some) s
+writtenAt c v s NbytesSet = cond (eqb (s .piece) 0) (Goes TransferClear) (Goes Wait)
+
+-- What the answer leads to. At BYTE the byte is counted in s already, at ADDRESS the address is noted.
+abbrev pub thenAt : Call → Description → View → SavedCall → ℕ → Step → Then
+thenAt c d v s a Ended = Ends (s .outcome)
+thenAt c d v s a Begin = Goes StartStatus
+thenAt c d v s a StartStatus = errorOr a (nackOr a (Goes StartControl))
+thenAt c d v s a StartControl = cond (flagOf a CR2-START) (Goes StartStatus) (Goes Wait)
+thenAt c d v s a Wait = errorOr a (waitAt c v s a (awaited c v s))
+thenAt c d v s a Byte = byteMoved c v s
+thenAt c d v s a StopClear = cond (transaction c) (Ends (s .outcome)) (stopEvent c)
+thenAt c d v s a BusClear = failOf c s Bus
+thenAt c d v s a ArbitrationClear = failOf c s Arbitration
+thenAt c d v s a NackClear = Goes FlushTxis
+thenAt c d v s a FlushTxis = cond (flagOf a ISR-TXIS) (Goes FlushByte) (Goes FlushTxe)
+thenAt c d v s a FlushByte = Goes FlushTxe
+thenAt c d v s a FlushTxe = cond (flagOf a ISR-TXE) (notAcknowledged c s) (Goes Flush)
+thenAt c d v s a Flush = notAcknowledged c s
+thenAt c d v s a Timing = cond (configured c d) (Goes Own) (Goes Enable)
+thenAt c d v s a Own = cond (hasSecondary d) (Goes Secondary) (ownThen c)
+thenAt c d v s a Secondary = ownThen c
+thenAt c d v s a Enable = Ends (Done 0)
+thenAt c d v s a Delay1 = Goes Delay2
+thenAt c d v s a Delay2 = Goes Disabled
+thenAt c d v s a Disabled = cond (flagOf a CR1-PE) (Goes Disabled) (Goes (ModifyRead PeOn))
+thenAt c d v s a Event = eventIn c a
+thenAt c d v s a EventFlush = Goes (clearStep c)
+thenAt c d v s a EventClear = cond (manual c) (eventOf c (v .some) s) (findAddress c (v .some) s)
+thenAt c d v s a Address = addressFound c (v .some) s
+thenAt c d v s a TransferClear = Goes Wait
+thenAt c d v s a (ModifyRead m) = Loads (ModifyWrite m)
+thenAt c d v s a (ModifyWrite m) = writtenAt c v s m
+
+-- ---- The saved call after a step
+
+-- one more access, held at the counter's end
+abbrev pub more : ℕ → ℕ
+more n = min (n + 1) 4294967295
+
+abbrev pub savedAt : SavedCall → Step → ℕ → ℕ → ℕ → Outcome → ℕ → SavedCall
+savedAt s t i j w o n = record { call = s .call; piece = i; byte = j; word = w; accesses = n; outcome = o; step = t }
+
+abbrev pub applyOf : SavedCall → ℕ → Then → SavedCall
+applyOf s a (Goes t) = savedAt s t (s .piece) (s .byte) (s .word) (s .outcome) (more (s .accesses))
+applyOf s a (Loads t) = savedAt s t (s .piece) (s .byte) a (s .outcome) (more (s .accesses))
+applyOf s a (Notes o t) = savedAt s t (s .piece) (s .byte) (s .word) o (more (s .accesses))
+applyOf s a (Next t) = savedAt s t (s .piece + 1) 0 (s .word) (s .outcome) (more (s .accesses))
+applyOf s a (Enters t) = savedAt s t 0 0 (s .word) (Done 0) (more (s .accesses))
+applyOf s a (Fails o) = savedAt s Wait (s .piece) (s .byte) (s .word) o (more (s .accesses))
+applyOf s a (Ends o) = savedAt s Ended (s .piece) (s .byte) (s .word) o (more (s .accesses))
+
+-- a number for each step, our own
+abbrev pub modifyNumber : Modify → ℕ
+modifyNumber PeOff = 0
+modifyNumber PeOn = 1
+modifyNumber Listen = 2
+modifyNumber NackSet = 3
+modifyNumber ReloadOff = 4
+modifyNumber SbcOff = 5
+modifyNumber ReloadClear = 6
+modifyNumber SbcOn = 7
+modifyNumber ReloadOn = 8
+modifyNumber NbytesSet = 9
+
+abbrev pub stepNumber : Step → ℕ
+stepNumber Ended = 0
+stepNumber Begin = 1
+stepNumber StartStatus = 2
+stepNumber StartControl = 3
+stepNumber Wait = 4
+stepNumber Byte = 5
+stepNumber StopClear = 6
+stepNumber BusClear = 7
+stepNumber ArbitrationClear = 8
+stepNumber NackClear = 9
+stepNumber FlushTxis = 10
+stepNumber FlushByte = 11
+stepNumber FlushTxe = 12
+stepNumber Flush = 13
+stepNumber Timing = 14
+stepNumber Own = 15
+stepNumber Secondary = 16
+stepNumber Enable = 17
+stepNumber Delay1 = 18
+stepNumber Delay2 = 19
+stepNumber Disabled = 20
+stepNumber Event = 21
+stepNumber EventFlush = 22
+stepNumber EventClear = 23
+stepNumber Address = 24
+stepNumber TransferClear = 25
+stepNumber (ModifyRead m) = 26 + modifyNumber m
+stepNumber (ModifyWrite m) = 36 + modifyNumber m
+
+abbrev pub is : Step → Step → Bool
+is t u = eqb (stepNumber t) (stepNumber u)
+
+-- What a step notes first: BYTE counts its byte, held at the piece's length + 1; ADDRESS keeps OA1.
+abbrev pub counted : View → SavedCall → SavedCall
+counted v s = savedAt s (s .step) (s .piece) (min (s .byte + 1) (v .size + 1)) (s .word) (s .outcome) (s .accesses)
+
+abbrev pub found : SavedCall → ℕ → SavedCall
+found s a = savedAt s (s .step) (s .piece) (s .byte) (s .word) (readdressed (s .outcome) (getOf a OAR1-OA1)) (s .accesses)
+
+abbrev pub noted : View → SavedCall → ℕ → Step → SavedCall
+noted v s a t = cond (is t Byte) (counted v s) (cond (is t Address) (found s a) s)
+
+abbrev pub afterIn : Call → Description → View → SavedCall → ℕ → SavedCall
+afterIn c d v s a =
+    let s′ : SavedCall = noted v s a (s .step) in
+    applyOf s′ a (thenAt c d v s′ a (s .step))
+
+unfoldable pub afterOf : Request → SavedCall → ℕ → SavedCall
+afterOf q s a = afterIn (q .call) (q .words) (viewOf q s) s a
+
+-- ---- Begin
+
+abbrev pub startAt : Call → Step → SavedCall
+startAt c t = record { call = numberOf c; piece = 0; byte = 0; word = 0; accesses = 0; outcome = Done 0; step = t }
+
+-- "An empty operation list ends as done, no access; so does manual 9 or 10 with an empty buffer."
+abbrev pub beginAt : Call → Bool → Step
+beginAt c some =
+    cond (call c 1 || (call c 2 || call c 6)) (ModifyRead PeOff)
+    (cond (call c 3) Own
+    (cond (call c 4 || call c 5) (ModifyRead Listen)
+    (cond (call c 14) (ModifyRead ReloadOff)
+    (cond (call c 15) (ModifyRead NackSet)
+    (cond (eventful c) Event
+    (cond some (entryStep c) Ended))))))
+
+unfoldable pub beginOf : Request → SavedCall
+beginOf q = startAt (q .call) (beginAt (q .call) (viewAt (piecesOf q) 0 .some))
