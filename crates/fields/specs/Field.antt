@@ -1,5 +1,5 @@
--- A field of a 32-bit register word, and what it means to read and to write one (RM0492 section 1.2, "word" and
--- "bit fields"; document 01: "A field keeps its low bits"). Assumes nothing.
+-- A field of a 32-bit register word, and what it means to read and to write one. Document 01: "A field keeps its low bits."
+-- Assumes nothing.
 use Prim.Native.Nat.{ℕ, _+_, _-_, _*_, _/_, _%_, _^_}
 use mathlib.Core.Bool.{Bool, true, false, cond, _&&_, _||_}
 use mathlib.Core.List.{List, [], _∷_}
