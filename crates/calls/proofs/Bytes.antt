@@ -17,7 +17,7 @@ use Rattle.calls.specs.Outcomes.{isDone}
 use Rattle.calls.specs.Pieces.{piecesOf, viewOf}
 use Rattle.calls.specs.Refusals.{some, takes, accepts}
 use Rattle.calls.specs.Run.{Entry, readEntry, writeEntry, byteOf, Uncut, uncutOf, isNackClear, outOf, putOutFrom, putOut, inOf, takenIn}
-use Rattle.calls.specs.Steps.{failing, byteOut, accessAt, accessOf, thenAt, applyOf, counted, noted, afterOf, beginAt, beginOf, is}
+use Rattle.calls.specs.Steps.{failing, byteOut, accessAt, accessOf, applyOf, counted, noted, beginAt, beginOf, is}
 use Rattle.calls.specs.Words.{registerOf, alterOf}
 use Rattle.calls.specs.declared.Access.{Access}
 use Rattle.calls.specs.declared.Access.the-variants.{Read, Take, Write, Nothing}

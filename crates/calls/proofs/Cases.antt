@@ -2,7 +2,7 @@
 -- section "Bench" prints; with it some runs of target calls whose logs were written out by hand. Assumes nothing.
 use Prim.Native.Nat.{ℕ}
 use mathlib.Core.Path.{_≡_, refl}
-use mathlib.Core.Bool.{true, false}
+use mathlib.Core.Bool.{false}
 use mathlib.Core.List.{List, [], _∷_, _++_, map}
 use lib.ListN.{length, replicate}
 use Rattle.fields.specs.Field.{bitsAt, withBits, getOf, putOf}
@@ -11,15 +11,15 @@ use Rattle.timing.specs.Bands.{timingOf, bandOf, inBandOf, equalAt, doubleAt}
 use Rattle.timing.specs.Timingr.{unpackOf}
 use Rattle.calls.specs.Calls.{Request, call, kinds, manual, none}
 use Rattle.calls.specs.Pieces.{piecesOf}
-use Rattle.calls.specs.Run.{Entry, Uncut, wordsOf, uncutOf}
+use Rattle.calls.specs.Run.{Uncut, wordsOf, uncutOf}
 use Rattle.calls.specs.Steps.{accessOf, afterOf, beginOf}
 use Rattle.calls.specs.Words.{cr2Of, alterOf}
 use Rattle.calls.specs.declared.Ack.the-variants.{AutoAck, ManualAck}
 use Rattle.calls.specs.declared.Call.{Call}
-use Rattle.calls.specs.declared.Call.the-variants.{Transaction, Read, Write, WaitForTargetRead}
+use Rattle.calls.specs.declared.Call.the-variants.{Transaction, Write, WaitForTargetRead}
 use Rattle.calls.specs.declared.Description.{Description}
 use Rattle.calls.specs.declared.Outcome.{Outcome}
-use Rattle.calls.specs.declared.Outcome.the-variants.{Done, Nack}
+use Rattle.calls.specs.declared.Outcome.the-variants.{Done}
 use Rattle.calls.specs.declared.Step.{Step}
 use Rattle.calls.specs.declared.Step.the-variants.{Ended}
 

@@ -12,7 +12,6 @@ use Rattle.calls.specs.Steps.{accessOf, afterOf, applyOf, beginOf, is, m
 use Rattle.calls.specs.declared.Access.{Access}
 use Rattle.calls.specs.declared.Access.the-variants.{Read, Take, Write, Nothing}
 use Rattle.calls.specs.declared.SavedCall.{SavedCall}
-use Rattle.calls.specs.declared.Step.{Step}
 use Rattle.calls.specs.declared.Step.the-variants.{Byte, Address}
 use Rattle.calls.specs.declared.Then.{Then}
 use Rattle.calls.specs.declared.Then.the-variants.{Goes, Loads, Notes, Next, Enters, Fails, Ends}

@@ -14,7 +14,7 @@ use Rattle.calls.specs.Outcomes.{isDone}
 use Rattle.calls.specs.Pieces.{blocksOf, piecesOf, pieceAt, viewOf}
 use Rattle.calls.specs.Refusals.{listed, takes, has, own, second, enable, peOn, listen, reloadOff}
 use Rattle.calls.specs.Run.{Entry, byteOf, outOf, inOf, Uncut, uncutOf, putOut, takenIn}
-use Rattle.calls.specs.Steps.{countOf, awaited, waitAt, byteOut, byteMoved, thenAt, applyOf, counted, noted, accessAt, accessOf, afterOf, beginOf, is}
+use Rattle.calls.specs.Steps.{countOf, awaited, waitAt, byteMoved, thenAt, applyOf, counted, noted, accessAt, accessOf, afterOf, beginOf, is}
 use Rattle.calls.specs.declared.Access.the-variants.{Take, Write}
 use Rattle.calls.specs.declared.Flag.{Flag}
 use Rattle.calls.specs.declared.Flag.the-variants.{Rxne, Txis, Tc, Tcr, Stopf, Never}
@@ -31,7 +31,7 @@ use Rattle.calls.proofs.Fits.{inEvent, flushOk, Fits, AllRead, all-read
 use Rattle.calls.proofs.Along.{entryOf, readLog, Keeps, along}
 use Rattle.calls.proofs.Places.{is-true, is-false, transfer-pieces}
 use Rattle.calls.proofs.Bytes.{only-use, not-transmits, not-receives, no-transaction, past, quiet, not-two, not-end, Front, whole, Fresh, by-noted, noted-fresh, Seen, note, unseen, seen-out, seen-got, Inv, at-byte, Taken, step-taken, keeps, begins}
-use Rattle.calls.proofs.Views.{notedIn, after-noted, thereIn, lastIn, sizeIn, placeIn}
+use Rattle.calls.proofs.Views.{notedIn, after-noted, thereIn, lastIn, sizeIn}
 
 abbrev target : Request → Bool
 target q = receives (q .call) || transmits (q .call)
@@ -297,15 +297,16 @@ module _ (q : Request) (s : SavedCall) (b : List ℕ) (a : ℕ) (z : Seen) (x : 
 
   moved-byte : s .piece < length (piecesOf q) → z .two ≡ false → after Byte ≡ movedOf q z + 1
   unfolding AllRead
-  moved-byte p h = rw (all-read q (no-transaction q x) (s .piece) p, h) (go (receives (q .call)))
+  moved-byte p h = rw (all-read q (no-transaction q x) (s .piece) p, h) (go (receives (q .call)) _ _)
     where
-      e : Bool → Entry
-      e r = entryOf (cond r (Take (placeIn q s)) (Write Txdr (byteOut (viewOf q s) b s))) a
+      e : Bool → ℕ → ℕ → Entry
+      e r i v = entryOf (cond r (Take i) (Write Txdr v)) a
 
-      go : (r : Bool) → cond r (length (z .got ++ inOf (e r))) (length (z .out ++ outOf false (e r))) ≡
+      -- wherever the byte goes and whichever it is
+      go : (r : Bool) (i v : ℕ) → cond r (length (z .got ++ inOf (e r i v))) (length (z .out ++ outOf false (e r i v))) ≡
           cond r (length (z .got)) (length (z .out)) + 1
-      go true = length-append (z .got) (byteOf a ∷ [])
-      go false = length-append (z .out) (byteOut (viewOf q s) b s ∷ [])
+      go true i v = length-append (z .got) (byteOf a ∷ [])
+      go false i v = length-append (z .out) (v ∷ [])
 
   moved-quiet : (t : Step) → T (not (is t Byte)) → T (flushOk t (z .two) (z .one)) → after t ≡ movedOf q z
   moved-quiet t n f = let k = quiet q b s a t (z .two) (z .one) n f in simp (k .out, k .got, append-nil)

@@ -1,10 +1,10 @@
 -- Demand 3: however a call is cut into advances, refused ones among them, it is one uncut run. `cut-anywhere` is the theorem.
 -- Assumes nothing.
-use Prim.Native.Nat.{ℕ, zero, suc, _+_, _*_, _/_, _<_, _≤_}
+use Prim.Native.Nat.{ℕ, zero, suc, _+_, _*_, _/_, _<_}
 use native.Mathlib.Nat.{zero-add, add-zero, suc-add, add-assoc}
 use native.Mathlib.Omega.{arith}
-use mathlib.Core.Path.{_≡_, refl, sym, ap, _∙_, subst}
-use mathlib.Core.Bool.{Bool, true, false, cond, not, _&&_}
+use mathlib.Core.Path.{_≡_, refl, sym, ap, _∙_}
+use mathlib.Core.Bool.{Bool, true, false, cond, not}
 use mathlib.Core.List.{List, [], _∷_, _++_, append-assoc, append-nil}
 use borrow.Author.Tests.{le-ltb}
 use lib.Dec.{T, T-not, eqb, ltb}
@@ -15,24 +15,21 @@ use Rattle.registers.specs.declared.Register.{Register}
 use Rattle.registers.specs.declared.Register.the-variants.{Cr1, Cr2, Oar1, Oar2, Timingr, Isr, Icr, Rxdr, Txdr}
 use Rattle.calls.specs.Calls.{Request, numberOf}
 use Rattle.calls.specs.Refusals.{requestOf, checkOf, accepts}
-use Rattle.calls.specs.Run.{Entry, readEntry, writeEntry, wordsOf, byteOf, Uncut, here, first, uncutTurn, uncutOf, noCall, begunBy, begunOf, Run, stops, turnOf, advanceFrom, runBy, runOf, Final, asFinal, finalBy, finalOf}
+use Rattle.calls.specs.Run.{Entry, readEntry, writeEntry, wordsOf, byteOf, Uncut, here, first, uncutTurn, uncutOf, noCall, begunBy, begunOf, Run, stops, turnOf, advanceFrom, runBy, runOf, Final, asFinal, finalBy}
 use Rattle.calls.specs.Steps.{accessOf, afterOf, beginOf, is}
 use Rattle.calls.proofs.Accepted.{accepted-after, accepted-begin}
 use Rattle.calls.proofs.Along.{has-access, no-access, made as Along·made}
 use Rattle.calls.proofs.Every.{every}
 use Rattle.calls.proofs.Logic.{both, is-true, is-false}
-use Rattle.calls.specs.Advances.{Advance, Meets, isRefusal, refused, Follows, none, but, then, made, joined, given, bufferAfter, savedAfter, Last, nobody, last, orElse, lastAccepted, isRead, Came, over, full, waiting, LastCame, NoneRefused, Untouched, RefusedUntouched, answersIn, OneRun, AllRefused, NoRun, CutAnywhere}
+use Rattle.calls.specs.Advances.{Advance, Meets, isRefusal, refused, Follows, none, but, then, made, joined, given, bufferAfter, savedAfter, Last, nobody, last, orElse, lastAccepted, isRead, Came, over, full, waiting, LastCame, NoneRefused, Untouched, RefusedUntouched, answersIn, OneRun, NoRun, CutAnywhere}
 use Rattle.calls.specs.declared.Access.{Access}
 use Rattle.calls.specs.declared.Access.the-variants.{Read, Take, Write, Nothing}
-use Rattle.calls.specs.declared.Advanced.{Advanced}
 use Rattle.calls.specs.declared.Call.{Call}
 use Rattle.calls.specs.declared.Description.{Description}
-use Rattle.calls.specs.declared.Refusal.{Refusal}
 use Rattle.calls.specs.declared.Refusal.the-variants.{SavedCall as BadSavedCall}
 use Rattle.calls.specs.declared.Report.{Report}
 use Rattle.calls.specs.declared.Report.the-variants.{Over, Full, Waiting, Refused}
 use Rattle.calls.specs.declared.SavedCall.{SavedCall}
-use Rattle.calls.specs.declared.Step.{Step}
 use Rattle.calls.specs.declared.Step.the-variants.{Ended}
 use Rattle.calls.specs.declared.Verdict.{Verdict}
 use Rattle.calls.specs.declared.Verdict.the-variants.{Accepted, Refused as Rejected}

@@ -2,11 +2,11 @@
 use Prim.Native.Nat.{ℕ, min}
 use native.Mathlib.Omega.{arith}
 use mathlib.Core.Path.{_≡_, refl, ap, _∙_, subst}
-use mathlib.Core.Bool.{Bool, true, false, cond, not, _&&_, _||_}
+use mathlib.Core.Bool.{Bool, true, false, not, _&&_, _||_}
 use mathlib.Core.List.{List, [], _++_}
 use lib.Dec.{T, eqb, ltb, eqb→eq}
 use lib.ListN.{length}
-use Rattle.calls.specs.Advances.{Advance, Follows, given, made, savedAfter, OneRun, CutAnywhere}
+use Rattle.calls.specs.Advances.{Advance, Follows, given, made, OneRun, CutAnywhere}
 use Rattle.calls.specs.Bytes.{BytesOut, BytesIn, Count, EndedAs}
 use Rattle.calls.specs.Calls.{Request, transaction}
 use Rattle.calls.specs.Demand.{left, Kept, Demand3}
@@ -19,7 +19,6 @@ use Rattle.calls.specs.declared.Lookup.{Lookup}
 use Rattle.calls.specs.declared.Lookup.the-variants.{Listed, Unlisted}
 use Rattle.calls.specs.declared.Outcome.the-variants.{Done}
 use Rattle.calls.specs.declared.Refusal.{Refusal}
-use Rattle.calls.specs.declared.Refusal.the-variants.{NoSuchCall, Address, List as BadList, Long, Buffer}
 use Rattle.calls.specs.declared.Verdict.{Verdict}
 use Rattle.calls.specs.declared.Verdict.the-variants.{Accepted, Refused}
 use Rattle.calls.proofs.Counter.{counts-accesses}

@@ -10,7 +10,7 @@ use lib.ListN.{length, take, drop, length-append, replicate, drop-of-length-le}
 use lib.Seq.{take-nil}
 use Rattle.calls.specs.Bytes.{range, placesFrom, bytesAt, callerBytes, readPlaces, BytesOut, BytesIn}
 use Rattle.calls.specs.Calls.{Request, transaction, receives, transmits}
-use Rattle.calls.specs.Pieces.{piecesOf, viewOf}
+use Rattle.calls.specs.Pieces.{piecesOf}
 use Rattle.calls.specs.Refusals.{total}
 use Rattle.calls.specs.Run.{Uncut, uncutOf, putOut, takenIn}
 use Rattle.calls.specs.Steps.{beginOf}

@@ -12,7 +12,7 @@ use lib.ListN.{length, getD, set, take, drop, length-set}
 use lib.Seq.{getD-set-other, getD-set-same, drop-cons, take-length}
 use Rattle.calls.specs.Bytes.{range, placesFrom, bytesAt}
 use Rattle.calls.specs.Calls.{Request, transaction, manual, receives, transmits}
-use Rattle.calls.specs.Pieces.{startFrom, Piece, pieceOf, blocksOf, piecesOf, pieceAt, viewOf}
+use Rattle.calls.specs.Pieces.{startFrom, Piece, pieceOf, blocksOf, piecesOf, pieceAt}
 use Rattle.calls.specs.Refusals.{total, anyOf}
 use Rattle.calls.specs.declared.SavedCall.{SavedCall}
 use Rattle.calls.proofs.Logic.{nor-0, nor-1, by-test, both}

@@ -1,7 +1,7 @@
 -- The view of a request's running piece, in short; and that what a step notes first leaves it. Assumes nothing.
 use Prim.Native.Nat.{ℕ, _+_}
 use mathlib.Core.Path.{_≡_, refl, sym, ap}
-use mathlib.Core.Bool.{Bool, true, false, cond}
+use mathlib.Core.Bool.{Bool}
 use Rattle.calls.specs.Calls.{Request}
 use Rattle.calls.specs.Pieces.{piecesOf, viewAt, viewOf, there}
 use Rattle.calls.specs.Steps.{applyOf, thenAt, is, noted, afterOf}

@@ -8,13 +8,12 @@ use lib.Dec.{T, ltb}
 use lib.ListN.{length, take}
 use Rattle.calls.specs.Calls.{Request}
 use Rattle.calls.specs.Refusals.{requestOf}
-use Rattle.calls.specs.Run.{Entry, wordsOf, Uncut, uncutOf, noCall, asFinal, finalOf}
+use Rattle.calls.specs.Run.{Entry, wordsOf, uncutOf, noCall, asFinal, finalOf}
 use Rattle.calls.specs.Steps.{accessOf, beginOf, is}
 use Rattle.calls.specs.declared.Access.{Access}
 use Rattle.calls.specs.declared.Access.the-variants.{Read, Take, Write, Nothing}
 use Rattle.calls.specs.declared.Advanced.{Advanced}
 use Rattle.calls.specs.declared.Description.{Description}
-use Rattle.calls.specs.declared.Refusal.{Refusal}
 use Rattle.calls.specs.declared.Report.{Report}
 use Rattle.calls.specs.declared.Report.the-variants.{Over, Full, Waiting, Refused}
 use Rattle.calls.specs.declared.SavedCall.{SavedCall}

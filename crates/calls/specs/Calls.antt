@@ -1,8 +1,8 @@
 -- The listed calls with document 01's numbers, what each has to do with bytes and events, and what is asked of one.
 -- Assumes nothing.
 use Prim.Native.Nat.{ℕ, _+_}
-use mathlib.Core.Bool.{Bool, true, false, cond, not, _&&_, _||_}
-use mathlib.Core.List.{List, [], _∷_}
+use mathlib.Core.Bool.{Bool, true, false, not, _||_}
+use mathlib.Core.List.{List}
 use lib.Dec.{eqb, leb}
 use Rattle.calls.specs.declared.Ack.{Ack}
 use Rattle.calls.specs.declared.Ack.the-variants.{AutoAck, ManualAck}

@@ -5,8 +5,8 @@ use mathlib.Core.Bool.{Bool, true, false, cond, not, _&&_, _||_}
 use mathlib.Core.List.{List, [], _∷_}
 use lib.Dec.{eqb, ltb, leb}
 use lib.ListN.{length}
-use Rattle.fields.specs.Field.{Place, place, getOf}
-use Rattle.calls.specs.Calls.{Request, numberOf, call, kinds, transaction, manual, receives, transmits, eventful, configured, hasSecondary, hasMask}
+use Rattle.fields.specs.Field.{place, getOf}
+use Rattle.calls.specs.Calls.{Request, numberOf, call, transaction, manual, receives, transmits, eventful, configured, hasSecondary, hasMask}
 use Rattle.calls.specs.Pieces.{operation-length, piecesOf, viewAt, viewOf, there}
 use Rattle.calls.specs.Steps.{is}
 use Rattle.calls.specs.declared.Ack.the-variants.{AutoAck, ManualAck}
@@ -17,7 +17,6 @@ use Rattle.calls.specs.declared.Lookup.{Lookup}
 use Rattle.calls.specs.declared.Lookup.the-variants.{Listed, Unlisted}
 use Rattle.calls.specs.declared.Modify.{Modify}
 use Rattle.calls.specs.declared.Modify.the-variants.{PeOff, PeOn, Listen, NackSet, ReloadOff, SbcOff, ReloadClear, SbcOn, ReloadOn, NbytesSet}
-use Rattle.calls.specs.declared.Refusal.{Refusal}
 use Rattle.calls.specs.declared.Refusal.the-variants.{NoSuchCall, Address, List as BadList, Long, Buffer}
 use Rattle.calls.specs.declared.SavedCall.{SavedCall}
 use Rattle.calls.specs.declared.Step.{Step}

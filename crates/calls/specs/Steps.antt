@@ -1,6 +1,6 @@
 -- What every call does, one register access at a time: the access of each step, and what each answer leads to.
 -- Sections of document 01 are named at the tables; registers, fields and flags are RM0492's. Assumes nothing.
-use Prim.Native.Nat.{ℕ, _+_, _-_, _*_, _^_, min}
+use Prim.Native.Nat.{ℕ, _+_, _-_, _*_, min}
 use mathlib.Core.Bool.{Bool, true, false, cond, not, _&&_, _||_}
 use mathlib.Core.List.{List}
 use lib.Dec.{eqb, ltb}

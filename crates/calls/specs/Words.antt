@@ -3,13 +3,12 @@
 use Prim.Native.Nat.{ℕ, _*_}
 use mathlib.Core.Bool.{Bool, true, false, cond}
 use lib.Dec.{eqb}
-use Rattle.fields.specs.Field.{getOf, putOf, markOf}
+use Rattle.fields.specs.Field.{putOf, markOf}
 use Rattle.registers.specs.Addresses.{sevenBitOwn, tenBitOwn, secondary, masked}
-use Rattle.registers.specs.Places.{CR1-PE, CR1-ANFOFF, CR1-GCEN, CR1-SBC, CR2-SADD, CR2-RD-WRN, CR2-ADD10, CR2-HEAD10R, CR2-START, CR2-NACK, CR2-NBYTES, CR2-RELOAD, CR2-AUTOEND, OAR1-OA1EN, OAR2-OA2EN, TIMINGR-PRESC, TIMINGR-SCLDEL, TIMINGR-SDADEL, ISR-TXE}
+use Rattle.registers.specs.Places.{CR1-PE, CR1-ANFOFF, CR1-GCEN, CR1-SBC, CR2-SADD, CR2-RD-WRN, CR2-ADD10, CR2-HEAD10R, CR2-START, CR2-NACK, CR2-NBYTES, CR2-RELOAD, CR2-AUTOEND, OAR1-OA1EN, OAR2-OA2EN}
 use Rattle.registers.specs.declared.Register.{Register}
 use Rattle.registers.specs.declared.Register.the-variants.{Cr1, Cr2, Oar1, Oar2}
 use Rattle.timing.specs.Timingr.{wordOf, unpackOf}
-use Rattle.timing.specs.declared.RawTimingr.{RawTimingr}
 use Rattle.timing.specs.declared.I2cTiming.{I2cTiming}
 use Rattle.calls.specs.Calls.{call, hasMask}
 use Rattle.calls.specs.declared.Call.{Call}

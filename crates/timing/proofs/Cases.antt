@@ -3,7 +3,7 @@
 use mathlib.Core.Path.{_≡_, refl}
 use mathlib.Core.List.{List, [], _∷_, map}
 use Prim.Native.Nat.{ℕ}
-use Rattle.fields.specs.Field.{getOf, putOf, bitsAt, withBits}
+use Rattle.fields.specs.Field.{putOf, withBits}
 use Rattle.registers.specs.Addresses.{sevenBitOwn, masked}
 use Rattle.timing.specs.Bands.{timingOf, bandOf, inBandOf, equalAt, doubleAt}
 use Rattle.timing.specs.Refusals.{numberOf}

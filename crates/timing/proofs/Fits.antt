@@ -1,19 +1,17 @@
 -- A timing that is worked out fits TIMINGR: packing it is never refused. Assumes nothing.
 use mathlib.Core.Path.{_≡_, refl}
 use mathlib.Core.Bool.{Bool, true, false, not, cond}
-use Prim.Native.Nat.{ℕ, _/_, _≤_, _<_, min}
+use Prim.Native.Nat.{ℕ, _/_, _≤_, min}
 use native.Mathlib.Omega.{arith}
 use borrow.Author.Tests.{le-leb}
 use lib.Dec.{T, leb, ltb, eqb, nleb→lt}
 use Rattle.timing.proofs.Quotients.{few-enough}
 use Rattle.timing.proofs.Rows.{usable}
 use Rattle.timing.specs.Bands.{dividerOf, fieldsOf, equalAt, doubleAt, shapedOf, inBandOf, bandOf, timingOf}
-use Rattle.timing.specs.Bounds.{Usable}
 use Rattle.timing.specs.Timingr.{rawOf, packOf}
 use Rattle.timing.specs.declared.Band.{Band}
 use Rattle.timing.specs.declared.Shape.{Shape}
 use Rattle.timing.specs.declared.Shape.the-variants.{Equal, Double}
-use Rattle.timing.specs.declared.I2cTiming.{I2cTiming}
 use Rattle.timing.specs.declared.Packed.the-variants.{Raw}
 use Rattle.timing.specs.declared.Timed.{Timed}
 use Rattle.timing.specs.declared.Timed.the-variants.{Timing, Refused}

@@ -1,5 +1,4 @@
 -- `timing::double` meets its contract: each return by the test that led there. Assumes nothing.
-use native.Mathlib.Omega.{arith}
 use Rattle.fields.proofs.Tests.{tests}
 use Rattle.timing.proofs.Quotients.{few-enough}
 use borrow.Author.Needs.{needs}

@@ -1,9 +1,7 @@
 -- `Oar2::masked` meets its contract: the field keeps three bits, and so does the code. Assumes nothing.
-use mathlib.Core.Path.{_∙_, ap}
-use Prim.Native.Nat.{ℕ, _+_, _%_}
+use mathlib.Core.Path.{_∙_}
 use native.Mathlib.Omega.{arith}
 use borrow.Author.Needs.{needs}
-use Rattle.fields.specs.Field.{putOf}
 use Rattle.fields.proofs.Laws.{put-low}
 use Rattle.registers.specs.Places.{OAR2-OA2MSK}
 use Rattle.registers.proofs.Oar2.masked.Statement.{statement}
