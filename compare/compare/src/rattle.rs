@@ -33,15 +33,8 @@ pub fn timing(clock: u32, frequency: u32) -> Answer {
     unsafe { huskerivory_timing(clock, frequency) }.into()
 }
 
-pub fn pack(fields: Fields) -> Answer {
-    let Fields {
-        presc,
-        scldel,
-        sdadel,
-        sclh,
-        scll,
-    } = fields;
-    unsafe { huskerivory_pack(presc, scldel, sdadel, sclh, scll) }.into()
+pub fn pack(f: Fields) -> Answer {
+    unsafe { huskerivory_pack(f.presc, f.scldel, f.sdadel, f.sclh, f.scll) }.into()
 }
 
 pub fn unpack(timingr: u32) -> Fields {

@@ -620,13 +620,19 @@ fn check_panic(description: Description, length: usize, log: &[Access], kind: Pa
 
 #[test]
 fn a_nack_before_any_byte_of_a_block_panics() {
-    let description = Description {
-        call: 26,
+    let manual = |call| Description {
+        call,
         ..Default::default()
     };
-    let mut log = vec![r(CR2, 0), w(CR2, 0x00FF_0000), w(ICR, ADDR)];
-    log.extend(NACK);
-    check_panic(description, 256, &log, PanicKind::NackAtOnce);
+    let mut block = vec![r(CR2, 0), w(CR2, 0x00FF_0000), w(ICR, ADDR)];
+    block.extend(NACK);
+    check_panic(manual(26), 256, &block, PanicKind::NackAtOnce);
+
+    let mut log = vec![r(ISR, ADDCODE_50 | DIR | ADDR | TXE)];
+    log.extend(MANUAL);
+    log.push(w(ICR, ADDR));
+    log.extend(block);
+    check_panic(manual(28), 256, &log, PanicKind::NackAtOnce);
 }
 
 #[test]
