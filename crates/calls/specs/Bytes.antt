@@ -36,8 +36,8 @@ abbrev pub bytesAt : List ℕ → List ℕ → List ℕ
 bytesAt b [] = []
 bytesAt b (k ∷ ks) = getD b k 0 ∷ bytesAt b ks
 
--- ---- Bytes out: "The caller's bytes are 7's in operations without bit 16, or 10's and 12's buffer (manual too), past
--- which only filling zeros go out."
+-- ---- Bytes out (section "A call, from its entry"). A transaction's caller gives the bytes of its write operations, a
+-- target's caller in 10, 12, 26 and 28 the whole buffer, and only there zeros may follow.
 abbrev pub callerBytes : Request → List ℕ → List ℕ
 callerBytes q b = cond (transaction (q .call)) (bytesAt b (placesFrom false 0 (piecesOf q))) (cond (transmits (q .call)) b [])
 
@@ -51,8 +51,8 @@ pub record BytesOut (q : Request) (b : List ℕ) (U : Uncut) : Type 0 where
   -- all of them when a transaction is done
   pub done : T (transaction (q .call)) → (n : ℕ) → EndedAs (Done n) U → putOut (U .log) ≡ callerBytes q b
 
--- ---- Bytes in: "The read places, 7's in operations with bit 16 or 9's and 11's buffer (manual too), take RXDR's low
--- eight bits in order; no other byte changes."
+-- ---- Bytes in (same section). Received bytes go, in order, to a transaction's read operations, or to the whole buffer of
+-- 9, 11, 25 and 27, and nothing else of the buffer is touched.
 abbrev pub readPlaces : Request → List ℕ
 readPlaces q = cond (transaction (q .call)) (placesFrom true 0 (piecesOf q)) (cond (receives (q .call)) (range 0 (q .size)) [])
 
@@ -66,8 +66,8 @@ pub record BytesIn (q : Request) (b : List ℕ) (U : Uncut) : Type 0 where
   -- all are filled when a transaction is done
   pub done : T (transaction (q .call)) → (n : ℕ) → EndedAs (Done n) U → bytesAt (U .buffer) (readPlaces q) ≡ takenIn (U .log)
 
--- ---- Counts: "Manual transfers go in blocks of 255 .. A NACK at byte i of a block counts i - 1, at least 0; zeros
--- follow the last block, the count capped at its length."
+-- ---- Counts (section "Target side"). The byte that a NACK finds in TXDR was not sent, so one less than was put out of the
+-- running block counts, but no less than none and no more than the block has.
 
 -- where the running block starts, once m bytes of a buffer of n (and the zeros after them) are put out
 abbrev pub blockStart : Bool → ℕ → ℕ → ℕ

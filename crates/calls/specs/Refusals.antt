@@ -40,11 +40,11 @@ lookupIn (c ∷ cs) n = cond (eqb n (numberOf c)) (Listed c) (lookupIn cs n)
 unfoldable pub lookupOf : ℕ → Lookup
 lookupOf n = lookupIn listed n
 
--- 12: "unlisted call, or listen kind not 0 general, 1 primary, 2 secondary"
+-- 12, no such call: the number is not listed, or calls 4 and 5 name none of the three listen kinds
 abbrev pub noSuchListenKind : Request → Bool
 noSuchListenKind q = (call (q .call) 4 || call (q .call) 5) && ltb 2 (q .words .listen)
 
--- 8: "7-bit address (secondary included) above 127, 10-bit above 1,023, mask above 6"
+-- 8, address: one that does not fit its seven or ten bits, or a mask of more than six bits
 abbrev pub tooWide : Bool → ℕ → Bool
 tooWide ten address = ltb (cond ten 1023 127) address
 
@@ -56,7 +56,7 @@ addressWide q =
     || ((hasSecondary (q .words) && tooWide false (q .words .config .secondary))
     || (hasMask (q .words) && ltb 6 (q .words .config .mask)))))
 
--- 10: "over 64 operations, bits 17 to 31 set, lengths not summing to the buffer"
+-- 10, list: more than 64 operations, a word with bits that mean nothing, or lengths that do not make up the buffer
 abbrev pub lengthOf : ℕ → ℕ
 lengthOf o = getOf o operation-length
 
@@ -76,14 +76,14 @@ listWrong q =
     transaction (q .call)
     && (ltb 64 (length (q .operations)) || (anyOf strangeBits (q .operations) || not (eqb (total (q .operations)) (q .size))))
 
--- 9: "an operation over 255"
+-- 9, long: an operation that NBYTES cannot hold
 abbrev pub tooLong : ℕ → Bool
 tooLong o = ltb 255 (lengthOf o)
 
 abbrev pub operationLong : Request → Bool
 operationLong q = transaction (q .call) && anyOf tooLong (q .operations)
 
--- 11: "AutoAck transfer (9 to 12) with an empty buffer, or any buffer over 65,535"
+-- 11, buffer: an AutoAck transfer without a byte to move, or more bytes than sixteen bits count
 abbrev pub bufferWrong : Request → Bool
 bufferWrong q =
     ((call (q .call) 9 || (call (q .call) 10 || (call (q .call) 11 || call (q .call) 12))) && eqb (q .size) 0) || ltb 65535 (q .size)
@@ -108,9 +108,9 @@ verdictBy Unlisted d ops n = Refused NoSuchCall
 unfoldable pub checkOf : Description → List ℕ → ℕ → Verdict
 checkOf d ops n = verdictBy (lookupOf (d .call)) d ops n
 
--- ---- 13, the saved call: "other call number; or, not ended, a step this call never takes, operation (for a target, block)
--- number outside the list, or byte number above its length + 1, or no byte there for a step that moves one, filling zeros
--- apart (a call with none counts as having one empty)"
+-- ---- 13, saved call: its number is not the described call's; or it has not ended and stands at a step that this call never
+-- takes, at a piece that is not there (a call without pieces counts as having an empty one), at a byte number that no run
+-- reaches, or at BYTE with no byte to move
 
 -- the steps by groups
 pub data Group : Type 0 where

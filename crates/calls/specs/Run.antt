@@ -45,8 +45,8 @@ wordsOf (e ∷ es) = e .code ∷ e .value ∷ wordsOf es
 abbrev pub byteOf : ℕ → ℕ
 byteOf a = a % 256
 
--- ---- The uncut run: "it has a log without end and makes the definition's accesses in turn until the call ends or a read
--- finds no answer". Here its first k accesses.
+-- ---- The uncut run: access after access, with no limit to its log, until the call has ended or a read finds no answer.
+-- Here its first k accesses.
 pub record Uncut : Type 0 where
   pub saved : SavedCall
   pub buffer : List ℕ
@@ -70,7 +70,7 @@ unfoldable pub uncutOf : Request → ℕ → SavedCall → List ℕ → List ℕ
 uncutOf q zero s b l = here s b
 uncutOf q (suc k) s b l = uncutTurn (uncutOf q k) q s b l (accessOf q b s)
 
--- ---- Begin: "a refused begin's saved call has number 0"
+-- ---- Begin. What a refused one hands out has number 0, which no call has.
 abbrev pub noCall : SavedCall
 noCall = record { call = 0; piece = 0; byte = 0; word = 0; accesses = 0; outcome = Done 0; step = Ended }
 
@@ -81,8 +81,8 @@ begunBy (Rejected r) d ops n = record { saved = noCall; verdict = Rejected r }
 unfoldable pub begunOf : Description → List ℕ → ℕ → Begun
 begunOf d ops n = begunBy (checkOf d ops n) d ops n
 
--- ---- One advance, over a number of log places: it "goes on until the call ends, the log has no place for the next access
--- (`full`, looked at first), or the next access is a read and no answer is left (`waiting`)".
+-- ---- One advance, over a number of log places. It stops where the call has ended; else, for want of a place, as `full`;
+-- else, for want of an answer to a read, as `waiting`.
 pub record Run : Type 0 where
   pub report : Report
   pub saved : SavedCall
@@ -111,7 +111,7 @@ unfoldable pub advanceFrom : Request → ℕ → SavedCall → List ℕ → List
 advanceFrom q zero s b l = stops (cond (is (s .step) Ended) (Over (s .outcome)) Full) s b
 advanceFrom q (suc n) s b l = turnOf (advanceFrom q n) q s b l (accessOf q b s)
 
--- "Begin and advance both look at the description, advance then at 13." A refusal changes nothing.
+-- The description is looked at as begin looks at it, then row 13. A refusal changes nothing.
 abbrev pub runBy : Verdict → Description → List ℕ → ℕ → SavedCall → List ℕ → List ℕ → Run
 runBy (Rejected r) d ops n s b l = stops (Refused r) s b
 runBy (Accepted c) d ops n s b l =
@@ -121,8 +121,8 @@ runBy (Accepted c) d ops n s b l =
 unfoldable pub runOf : Description → List ℕ → ℕ → SavedCall → List ℕ → List ℕ → Run
 runOf d ops n s b l = runBy (checkOf d ops (length b)) d ops n s b l
 
--- What an advance returns, with the buffer and the log as it leaves them: its entries stand first, "an odd last log word is
--- no place", and the log's other words are as they were.
+-- What an advance returns, with the buffer and the log as it leaves them: its entries stand first, two words each, and the
+-- log's other words are as they were, an odd last one always.
 pub record Final : Type 0 where
   pub advanced : Advanced
   pub buffer : List ℕ
@@ -142,8 +142,8 @@ finalOf d ops s b l log = finalBy log (runOf d ops (length log / 2) s b l)
 abbrev pub asFinal : Advanced → List ℕ → List ℕ → Final
 asFinal a b log = record { advanced = a; buffer = b; log = log }
 
--- ---- The bytes of a log. "Put out are the log's TXDR writes but a flush, two entries after a written ICR 0x10." `two` and
--- `one` say whether that was written two entries ago, and one.
+-- ---- The bytes of a log. A write to TXDR puts a byte out, unless it is the flush after a NACK, which comes two entries
+-- after NACKCF was written to ICR. `two` and `one` say whether that was written two entries ago, and one.
 abbrev pub isNackClear : Entry → Bool
 isNackClear e = eqb (e .code) 0x11C && eqb (e .value) 0x10
 

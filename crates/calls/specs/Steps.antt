@@ -84,15 +84,15 @@ accessOf q b s = accessAt (q .call) (q .words) (viewOf q s) b s (s .step)
 
 -- ---- What follows (`a` is the answer to a read)
 
--- "Every ISR check: BERR, clear, bus; else ARLO, clear, arbitration."
+-- Errors come before all else that a status word says, BERR before ARLO (section "Leaves").
 abbrev pub errorOr : ℕ → Then → Then
 errorOr a t = cond (flagOf a ISR-BERR) (Goes BusClear) (cond (flagOf a ISR-ARLO) (Goes ArbitrationClear) t)
 
 abbrev pub nackOr : ℕ → Then → Then
 nackOr a t = cond (flagOf a ISR-NACKF) (Goes NackClear) t
 
--- "After an error it waits for STOPF and returns the error, or the newer error if that wait fails." Any error ends another
--- call than a transaction.
+-- The first error of a transaction is kept while it waits for STOPF, an error in that wait takes its place and ends it
+-- (section "Transaction"). Any error ends another call at once.
 abbrev pub failing : Call → SavedCall → Bool
 failing c s = transaction c && not (isDone (s .outcome))
 
@@ -104,7 +104,7 @@ failOf c s o = cond (transaction c && isDone (s .outcome)) (Fails o) (Ends o)
 abbrev pub countOf : Call → SavedCall → ℕ
 countOf c s = 255 * s .piece + cond (receives c) (s .byte) (s .byte - 1)
 
--- "Auto read ends with NACK set in CR2, early stop included, errors not."
+-- An automatic read sets NACK in CR2 once it is full or was stopped (section "Target side").
 abbrev pub transferOver : Call → SavedCall → Then
 transferOver c s = cond (receives c && not (manual c)) (Goes (ModifyRead NackSet)) (Ends (Done (countOf c s)))
 
@@ -119,8 +119,8 @@ entryStep c = cond (transaction c) Begin (cond (manual c) (ModifyRead NbytesSet)
 abbrev pub transferOf : Call → Bool → Then
 transferOf c some = cond some (Enters (entryStep c)) (Ends (Done 0))
 
--- "An unfitting event ends 11 and 13 as expected-write (a read), 12 and 13 as expected-read (a write), 11 and 12 as
--- stopped (a stop)."
+-- What a complete event means to each call (section "Target side"): 8 reports it, 12 goes on from a read and 11 from a write,
+-- 13 ends at a stop; every other event is the wrong one.
 abbrev pub eventOf : Call → Bool → SavedCall → Then
 eventOf c some s =
     cond (kinds c 8) (Ends (s .outcome))
@@ -130,21 +130,21 @@ eventOf c some s =
 abbrev pub stopEvent : Call → Then
 stopEvent c = cond (kinds c 8) (Ends EventStop) (cond (kinds c 13) (Ends (Done 0)) (Ends Stopped))
 
--- manual: "for DIR 1 writes ICR 0x8, for DIR 0 sets SBC, then RELOAD"
+-- ManualAck clears ADDR now if the controller reads; if it writes, byte control is set up first (section "Target side").
 abbrev pub addressFound : Call → Bool → SavedCall → Then
 addressFound c some s =
     cond (manual c)
     (cond (isEventRead (s .outcome)) (Goes EventClear) (Goes (ModifyRead SbcOn)))
     (eventOf c some s)
 
--- "If ADDCODE AND 0x7C is 0x78, OAR1 is read and its OA1 field is the address." Bits 2 to 6 of ADDCODE are then 30.
+-- A ten-bit header, 0x78 under the mask 0x7C, has 30 in bits 2 to 6 of ADDCODE; the address itself then stands in OAR1.
 abbrev pub tenBitHeader : ℕ → Bool
 tenBitHeader code = eqb (getOf code (place 2 5)) 30
 
 abbrev pub findAddress : Call → Bool → SavedCall → Then
 findAddress c some s = cond (tenBitHeader (outcomeValue (s .outcome))) (Goes Address) (addressFound c some s)
 
--- "On ADDR: if TXE is 0, write ISR 1." Auto then clears ADDR, manual clears SBC.
+-- An address match with a byte left in TXDR empties it first. Then AutoAck clears ADDR, ManualAck clears SBC.
 abbrev pub clearStep : Call → Step
 clearStep c = cond (manual c) (ModifyRead SbcOff) EventClear
 
@@ -167,7 +167,7 @@ awaited c v s =
     (cond (transaction c) (cond (v .last) Stopf (cond (v .same) Tcr Tc))
     Never))
 
--- "Byte in: RXNE, else STOPF or ADDR gives stopped; NACK is not looked at."
+-- A byte that came in is taken before a stop or a new address is looked at, and NACKF not at all (section "Leaves").
 abbrev pub stopOr : Call → SavedCall → ℕ → Then
 stopOr c s a =
     cond (flagOf a ISR-STOPF || flagOf a ISR-ADDR)
@@ -180,7 +180,7 @@ goesIf flag t = cond flag (Goes t) (Goes Wait)
 abbrev pub nextIf : Bool → Then
 nextIf flag = cond flag (Next Begin) (Goes Wait)
 
--- "Byte out: NACK is checked, then TXIS." So is NACK in every wait at an operation's end.
+-- NACKF is looked at before TXIS, and before the flag of every wait at an operation's end (section "Leaves").
 abbrev pub waitAt : Call → View → SavedCall → ℕ → Flag → Then
 waitAt c v s a Rxne = cond (flagOf a ISR-RXNE) (Goes Byte) (stopOr c s a)
 waitAt c v s a Txis = nackOr a (goesIf (flagOf a ISR-TXIS) Byte)
@@ -329,7 +329,7 @@ afterOf q s a = afterIn (q .call) (q .words) (viewOf q s) s a
 abbrev pub startAt : Call → Step → SavedCall
 startAt c t = record { call = numberOf c; piece = 0; byte = 0; word = 0; accesses = 0; outcome = Done 0; step = t }
 
--- "An empty operation list ends as done, no access; so does manual 9 or 10 with an empty buffer."
+-- Without a piece a transaction and a manual 9 or 10 have ended as done before any access.
 abbrev pub beginAt : Call → Bool → Step
 beginAt c some =
     cond (call c 1 || (call c 2 || call c 6)) (ModifyRead PeOff)

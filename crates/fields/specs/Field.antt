@@ -1,4 +1,4 @@
--- A field of a 32-bit register word, and what it means to read and to write one. Document 01: "A field keeps its low bits."
+-- A field of a 32-bit register word, and what it means to read and to write one: of a value it takes the low bits.
 -- Assumes nothing.
 use Prim.Native.Nat.{ℕ, _+_, _-_, _*_, _/_, _%_, _^_}
 use mathlib.Core.Bool.{Bool, true, false, cond, _&&_, _||_}
