@@ -9,9 +9,9 @@ use lib.Dec.{T, T-not, eqb, ltb, ltb→lt, lt→ltb, leb→le, le→leb, eqb-ref
 use lib.ListN.{length}
 use Rattle.fields.proofs.Laws.{and-l, and-r}
 use Rattle.calls.specs.Calls.{Request, numberOf, call, transaction, receives, transmits}
-use Rattle.calls.specs.Pieces.{Piece, piecesOf, viewOf}
+use Rattle.calls.specs.Pieces.{Piece, piecesFor, piecesOf, viewOf}
 use Rattle.calls.specs.Steps.{thenAt, applyOf, is, noted, afterOf, startAt, beginAt, beginOf}
-use Rattle.calls.specs.Refusals.{some, has, takes, accepts}
+use Rattle.calls.specs.Refusals.{some, has, hasIn, takes, accepts}
 use Rattle.calls.specs.declared.SavedCall.{SavedCall}
 use Rattle.calls.specs.declared.Step.{Step}
 use Rattle.calls.specs.declared.Step.the-variants.{Ended, Byte, Address}
@@ -100,7 +100,7 @@ accepted-after q s a h =
 
 -- a call with a piece moves bytes
 some-target : (q : Request) → T (some q) → T (not (transaction (q .call))) → T (receives (q .call) || transmits (q .call))
-unfolding piecesOf
+unfolding piecesFor
 some-target q h n =
     by-test P (transaction (q .call)) (λ x _. absurd (T-not (transaction (q .call)) n x)) (λ _.
     by-test P (receives (q .call) || transmits (q .call)) (λ y _. y) (λ _ h. absurd h)) h
@@ -114,7 +114,7 @@ record Begins (q : Request) (t : Step) : Type 0 where
   no-byte : T (not (is t Byte))
 
 begins : (q : Request) → Begins q (beginAt (q .call) (some q))
-unfolding has call
+unfolding hasIn call
 begins q = search (by-test (Begins q), at, and-in, or-0, or-1, not-new, some-target) depth 16
   where
     at : (t : Step) → T (takes q t) → T (not (is t Byte)) → Begins q t

@@ -10,7 +10,7 @@ use Rattle.timing.proofs.Cases.{Question, Answer, Case, ask, cases}
 use Rattle.timing.specs.Bands.{timingOf, bandOf, inBandOf, equalAt, doubleAt}
 use Rattle.timing.specs.Timingr.{unpackOf}
 use Rattle.calls.specs.Calls.{Request, call, kinds, manual, none}
-use Rattle.calls.specs.Pieces.{piecesOf}
+use Rattle.calls.specs.Pieces.{piecesFor, piecesOf}
 use Rattle.calls.specs.Run.{Uncut, wordsOf, uncutOf}
 use Rattle.calls.specs.Steps.{accessOf, afterOf, beginOf}
 use Rattle.calls.specs.Words.{cr2Of, alterOf}
@@ -108,5 +108,5 @@ table =
     ∷ []
 
 proved-cases : map (λ (r : Row). answerTo (r .asked)) table ≡ map (λ (r : Row). r .answered) table
-unfolding timingOf bandOf inBandOf equalAt doubleAt getOf bitsAt putOf withBits unpackOf call kinds manual piecesOf cr2Of alterOf accessOf afterOf beginOf uncutOf
+unfolding timingOf bandOf inBandOf equalAt doubleAt getOf bitsAt putOf withBits unpackOf call kinds manual piecesFor cr2Of alterOf accessOf afterOf beginOf uncutOf
 proved-cases = refl

@@ -12,7 +12,7 @@ use Rattle.calls.specs.Bytes.{writeCount, EndedAs, Count}
 use Rattle.calls.specs.Calls.{Request, call, kinds, manual, transaction, receives, transmits}
 use Rattle.calls.specs.Outcomes.{isDone}
 use Rattle.calls.specs.Pieces.{blocksOf, piecesOf, pieceAt, viewOf}
-use Rattle.calls.specs.Refusals.{listed, takes, has, own, second, enable, peOn, listen, reloadOff}
+use Rattle.calls.specs.Refusals.{listed, takes, has, hasIn, own, second, enable, peOn, listen, reloadOff}
 use Rattle.calls.specs.Run.{Entry, byteOf, outOf, inOf, Uncut, uncutOf, putOut, takenIn}
 use Rattle.calls.specs.Steps.{countOf, awaited, waitAt, byteMoved, thenAt, applyOf, counted, noted, accessAt, accessOf, afterOf, beginOf, is}
 use Rattle.calls.specs.declared.Access.the-variants.{Take, Write}
@@ -83,7 +83,7 @@ module _ (q : Request) (s : SavedCall) (a : ℕ) (x : T (target q)) where
   waits Never = search table depth 16
 
   counts : (t : Step) → T (not (is t Ended)) → T (takes q t) → Counts q s t (thenAt (q .call) (q .words) (viewOf q s) s a t)
-  unfolding has call kinds
+  unfolding hasIn call kinds
   counts Ended h k = absurd h
   counts Begin h k = search table depth 16
   counts StartStatus h k = search table depth 16

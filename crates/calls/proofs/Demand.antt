@@ -37,16 +37,16 @@ sums false a b e h x = absurd x
 
 record Passed (q : Request) (c : Call) : Type 0 where
   call : q .call ≡ c
-  list : T (not (listWrong q))
+  list : T (not (listWrong (q .call) (q .operations) (q .size)))
 
 passed : (q : Request) (c : Call) → verdictOf q ≡ Accepted c → Passed q c
 unfolding verdictOf
 passed q c e =
-    by-test P (noSuchListenKind q) (λ _ e. refused e) (λ _.
-    by-test P (addressWide q) (λ _ e. refused e) (λ _.
-    by-test P (listWrong q) (λ _ e. refused e) (λ l.
-    by-test P (operationLong q) (λ _ e. refused e) (λ _.
-    by-test P (bufferWrong q) (λ _ e. refused e) (λ _ e. record { call = cc; list = l }))))) e
+    by-test P (noSuchListenKind (q .call) (q .words)) (λ _ e. refused e) (λ _.
+    by-test P (addressWide (q .call) (q .words)) (λ _ e. refused e) (λ _.
+    by-test P (listWrong (q .call) (q .operations) (q .size)) (λ _ e. refused e) (λ l.
+    by-test P (operationLong (q .call) (q .operations)) (λ _ e. refused e) (λ _.
+    by-test P (bufferWrong (q .call) (q .size)) (λ _ e. refused e) (λ _ e. record { call = cc; list = l }))))) e
   where
     P : Verdict → Type 0
     P v = v ≡ Accepted c → Passed q c

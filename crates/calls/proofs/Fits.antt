@@ -10,9 +10,9 @@ use lib.ListN.{length}
 use Rattle.fields.proofs.Laws.{and-l, and-r}
 use Rattle.calls.specs.Calls.{Request, call, kinds, transaction, manual, receives, transmits, eventful, configured}
 use Rattle.calls.specs.Outcomes.{isDone}
-use Rattle.calls.specs.Pieces.{Piece, blocksOf, piecesOf, pieceAt, viewOf}
+use Rattle.calls.specs.Pieces.{Piece, blocksOf, piecesFor, piecesOf, pieceAt, viewOf}
 use Rattle.calls.specs.Steps.{failing, awaited, waitAt, entryStep, clearStep, thenAt, is}
-use Rattle.calls.specs.Refusals.{some, Group, any, starts, move, stop, errors, nack, timing, own, second, enable, reset, events, blocks, peOff, peOn, listen, nackSet, reloadOff, manualEvents, groupOf, has, takes}
+use Rattle.calls.specs.Refusals.{some, Group, any, starts, move, stop, errors, nack, timing, own, second, enable, reset, events, blocks, peOff, peOn, listen, nackSet, reloadOff, manualEvents, groupOf, has, hasIn, takes}
 use Rattle.calls.specs.declared.Call.{Call}
 use Rattle.calls.specs.declared.Call.the-variants.{Transaction}
 use Rattle.calls.specs.declared.Flag.{Flag}
@@ -101,27 +101,27 @@ ruleset logic = (and-in, or-0, or-1, and-l, and-r, nor-0, nor-1)
 
 module _ (q : Request) where
   pub move-some : T (has q move) → T (some q)
-  unfolding has
+  unfolding hasIn
   move-some h = search and-r
 
   move-target : T (has q move) → T (not (transaction (q .call))) → T (receives (q .call) || transmits (q .call))
-  unfolding has
+  unfolding hasIn
   move-target h n = or-else (transaction (q .call)) (receives (q .call) || transmits (q .call)) (search and-l) n
 
   errors-move : T (has q errors) → T (transaction (q .call)) → T (has q move)
-  unfolding has call kinds
+  unfolding hasIn call kinds
   errors-move h x = or-else (eventful (q .call)) _ h (implied q (λ r. transaction (r .call)) (λ r. not (eventful (r .call))) tt x)
 
   timing-in : T (has q peOff && not (call (q .call) 6)) → T (has q timing)
-  unfolding has call
+  unfolding hasIn call
   timing-in = implied q (λ r. has r peOff && not (call (r .call) 6)) (λ r. has r timing) tt
 
   own-in : T (has q timing) → T (call (q .call) 1 || (call (q .call) 2 || call (q .call) 3))
-  unfolding has call
+  unfolding hasIn call
   own-in = implied q (λ r. has r timing) (λ r. call (r .call) 1 || (call (r .call) 2 || call (r .call) 3)) tt
 
   enable-in : T (has q timing && not (configured (q .call) (q .words))) → T (has q enable)
-  unfolding has call
+  unfolding hasIn call
   enable-in = implied q (λ r. has r timing && not (configured (r .call) (r .words))) (λ r. has r enable) tt
 
 -- all pieces of a target call go its way
@@ -140,7 +140,7 @@ one-reads q zero h = refl
 one-reads q (suc i) h = absurd (omega arith)
 
 pub all-read : (q : Request) → T (not (transaction (q .call))) → AllRead q (piecesOf q)
-unfolding AllRead piecesOf
+unfolding AllRead piecesFor
 all-read q n =
     by-test (AllRead q) (transaction (q .call)) (λ x. absurd (T-not (transaction (q .call)) n x)) (λ _.
     by-test (AllRead q) (receives (q .call) || transmits (q .call)) (λ _.
@@ -164,7 +164,7 @@ entry : (c : Call) (P : Step → Type 0) → P Begin → P (ModifyRead NbytesSet
 entry c P x y z = by-test P (transaction c) (λ _. x) (λ _. by-test P (manual c) (λ _. y) (λ _. z))
 
 entry-taken : (q : Request) → T (has q move) → T (takes q (entryStep (q .call)))
-unfolding has
+unfolding hasIn
 entry-taken q h =
     by-test (λ (u : Step). T (takes q u)) (transaction (q .call)) (λ x. search logic) (λ n.
     let w = move-target q h n in
@@ -199,7 +199,7 @@ module _ {q : Request} {s : SavedCall} {t : Step} where
 
   clears : (n : Step → Then) → ((u : Step) → T (takes q u) → T (edgeOk t u) → T (plain u) → Fits q s t (n u)) →
       T (has q events) → T (edgeOk t (ModifyRead SbcOff)) → T (edgeOk t EventClear) → Fits q s t (n (clearStep (q .call)))
-  unfolding has
+  unfolding hasIn
   clears n f h e g =
       f (clearStep (q .call)) (clear (q .call) (λ (u : Step). T (takes q u)) (λ m. search logic) h)
       (clear (q .call) (λ (u : Step). T (edgeOk t u)) (λ _. e) g) (clear (q .call) (λ (u : Step). T (plain u)) (λ _. tt) tt)
@@ -220,7 +220,7 @@ Inside q s = s .piece < max 1 (length (piecesOf q))
 module _ (q : Request) (s : SavedCall) (a : ℕ) where
   -- so a piece that does not read has the steps of NACK
   writes-nack : Inside q s → T (has q move) → T (not (readsIn q s)) → T (has q nack)
-  unfolding has AllRead
+  unfolding hasIn AllRead
   writes-nack p h r =
       let z : 0 < length (piecesOf q) = ltb→lt 0 (length (piecesOf q)) (move-some q h) in
       both (transaction (q .call)) (λ x. search logic) (λ n.
@@ -228,7 +228,7 @@ module _ (q : Request) (s : SavedCall) (a : ℕ) where
       let w = or-else (receives (q .call)) _ (move-target q h n) r′ in search logic)
 
   waits : (f : Flag) → Inside q s → T (has q move) → Flagged q s f → Fits q s Wait (waitAt (q .call) (viewOf q s) s a f)
-  unfolding has
+  unfolding hasIn
   waits Rxne p w h = search table depth 16
   waits Txis p w h = search (table, writes-nack) depth 16
   waits Tc p w h = search table depth 16
@@ -239,7 +239,7 @@ module _ (q : Request) (s : SavedCall) (a : ℕ) where
   -- by the last premise it is no transaction, where a transaction takes no step of the group
   row : (t : Step) → Inside q s → T (not (is t Ended)) → T (takes q t) →
       T (has (asks q Transaction) (groupOf t) || not (transaction (q .call))) → Fits q s t (thenAt (q .call) (q .words) (viewOf q s) s a t)
-  unfolding has call kinds manual
+  unfolding hasIn call kinds manual
   row Ended p h k o = absurd h
   row Begin p h k o = search table depth 16
   row StartStatus p h k o = search table depth 16

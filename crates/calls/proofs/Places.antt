@@ -12,7 +12,7 @@ use lib.ListN.{length, getD, set, take, drop, length-set}
 use lib.Seq.{getD-set-other, getD-set-same, drop-cons, take-length}
 use Rattle.calls.specs.Bytes.{range, placesFrom, bytesAt}
 use Rattle.calls.specs.Calls.{Request, transaction, manual, receives, transmits}
-use Rattle.calls.specs.Pieces.{startFrom, Piece, pieceOf, blocksOf, piecesOf, pieceAt}
+use Rattle.calls.specs.Pieces.{startFrom, Piece, pieceOf, blocksOf, piecesFor, piecesOf, pieceAt}
 use Rattle.calls.specs.Refusals.{total, anyOf}
 use Rattle.calls.specs.declared.SavedCall.{SavedCall}
 use Rattle.calls.proofs.Logic.{nor-0, nor-1, by-test, both}
@@ -96,7 +96,7 @@ sizes-operations [] = refl
 sizes-operations (o ∷ os) = omega (arith, sizes-operations os)
 
 sizes-all : (q : Request) → (T (transaction (q .call)) → total (q .operations) ≡ q .size) → sizes (piecesOf q) ≤ q .size
-unfolding piecesOf
+unfolding piecesFor
 sizes-all q h =
     by-test P (transaction (q .call)) (λ x. omega (arith, sizes-operations (q .operations), h x)) (λ _.
     by-test P (receives (q .call) || transmits (q .call))
@@ -226,11 +226,11 @@ is-false false h = refl
 pub transfer-pieces : (q : Request) → T (not (transaction (q .call))) → T (receives (q .call) || transmits (q .call)) →
     piecesOf q ≡
     cond (manual (q .call)) (blocksOf (receives (q .call)) (q .size) (q .size)) (record { size = q .size; reads = receives (q .call) } ∷ [])
-unfolding piecesOf
+unfolding piecesFor
 transfer-pieces q n x = rw (is-false (transaction (q .call)) n, is-true (receives (q .call) || transmits (q .call)) x)
 
 no-pieces : (q : Request) → T (not (transaction (q .call))) → T (not (receives (q .call) || transmits (q .call))) → piecesOf q ≡ []
-unfolding piecesOf
+unfolding piecesFor
 no-pieces q n x = rw (is-false (transaction (q .call)) n, is-false (receives (q .call) || transmits (q .call)) x)
 
 range-append : (at m n : ℕ) → range at m ++ range (at + m) n ≡ range at (m + n)

@@ -32,12 +32,15 @@ blocksOf w (suc fuel) zero = []
 blocksOf w (suc fuel) (suc n) = record { size = min 255 (suc n); reads = w } ∷ blocksOf w fuel (suc n - 255)
 
 -- An AutoAck transfer is one piece, a ManualAck transfer goes in blocks; other calls have none.
-unfoldable pub piecesOf : Request → List Piece
-piecesOf q =
-    cond (transaction (q .call)) (map pieceOf (q .operations))
-    (cond (receives (q .call) || transmits (q .call))
-    (cond (manual (q .call)) (blocksOf (receives (q .call)) (q .size) (q .size)) (record { size = q .size; reads = receives (q .call) } ∷ []))
+unfoldable pub piecesFor : Call → List ℕ → ℕ → List Piece
+piecesFor c ops n =
+    cond (transaction c) (map pieceOf ops)
+    (cond (receives c || transmits c)
+    (cond (manual c) (blocksOf (receives c) n n) (record { size = n; reads = receives c } ∷ []))
     [])
+
+abbrev pub piecesOf : Request → List Piece
+piecesOf q = piecesFor (q .call) (q .operations) (q .size)
 
 abbrev pub pieceAt : List Piece → ℕ → Piece
 pieceAt ps i = getD ps i (record { size = 0; reads = false })

@@ -41,20 +41,22 @@ unfoldable pub lookupOf : ℕ → Lookup
 lookupOf n = lookupIn listed n
 
 -- 12, no such call: the number is not listed, or calls 4 and 5 name none of the three listen kinds
-abbrev pub noSuchListenKind : Request → Bool
-noSuchListenKind q = (call (q .call) 4 || call (q .call) 5) && ltb 2 (q .words .listen)
+abbrev pub noSuchListenKind : Call → Description → Bool
+noSuchListenKind c d = (call c 4 || call c 5) && ltb 2 (d .listen)
 
 -- 8, address: one that does not fit its seven or ten bits, or a mask of more than six bits
 abbrev pub tooWide : Bool → ℕ → Bool
 tooWide ten address = ltb (cond ten 1023 127) address
 
-abbrev pub addressWide : Request → Bool
-addressWide q =
-    (transaction (q .call) && tooWide (q .words .ten) (q .words .address))
-    || (((call (q .call) 1 || (call (q .call) 2 || call (q .call) 3)) && configured (q .call) (q .words))
-    && (tooWide (q .words .config .ten) (q .words .config .own)
-    || ((hasSecondary (q .words) && tooWide false (q .words .config .secondary))
-    || (hasMask (q .words) && ltb 6 (q .words .config .mask)))))
+abbrev pub configWide : Description → Bool
+configWide d =
+    tooWide (d .config .ten) (d .config .own)
+    || ((hasSecondary d && tooWide false (d .config .secondary)) || (hasMask d && ltb 6 (d .config .mask)))
+
+abbrev pub addressWide : Call → Description → Bool
+addressWide c d =
+    (transaction c && tooWide (d .ten) (d .address))
+    || (((call c 1 || (call c 2 || call c 3)) && configured c d) && configWide d)
 
 -- 10, list: more than 64 operations, a word with bits that mean nothing, or lengths that do not make up the buffer
 abbrev pub lengthOf : ℕ → ℕ
@@ -71,30 +73,27 @@ anyOf f (o ∷ os) = f o || anyOf f os
 abbrev pub strangeBits : ℕ → Bool
 strangeBits o = not (eqb (getOf o (place 17 15)) 0)
 
-abbrev pub listWrong : Request → Bool
-listWrong q =
-    transaction (q .call)
-    && (ltb 64 (length (q .operations)) || (anyOf strangeBits (q .operations) || not (eqb (total (q .operations)) (q .size))))
+abbrev pub listWrong : Call → List ℕ → ℕ → Bool
+listWrong c ops n = transaction c && (ltb 64 (length ops) || (anyOf strangeBits ops || not (eqb (total ops) n)))
 
 -- 9, long: an operation that NBYTES cannot hold
 abbrev pub tooLong : ℕ → Bool
 tooLong o = ltb 255 (lengthOf o)
 
-abbrev pub operationLong : Request → Bool
-operationLong q = transaction (q .call) && anyOf tooLong (q .operations)
+abbrev pub operationLong : Call → List ℕ → Bool
+operationLong c ops = transaction c && anyOf tooLong ops
 
 -- 11, buffer: an AutoAck transfer without a byte to move, or more bytes than sixteen bits count
-abbrev pub bufferWrong : Request → Bool
-bufferWrong q =
-    ((call (q .call) 9 || (call (q .call) 10 || (call (q .call) 11 || call (q .call) 12))) && eqb (q .size) 0) || ltb 65535 (q .size)
+abbrev pub bufferWrong : Call → ℕ → Bool
+bufferWrong c n = ((call c 9 || (call c 10 || (call c 11 || call c 12))) && eqb n 0) || ltb 65535 n
 
 unfoldable pub verdictOf : Request → Verdict
 verdictOf q =
-    cond (noSuchListenKind q) (Refused NoSuchCall)
-    (cond (addressWide q) (Refused Address)
-    (cond (listWrong q) (Refused BadList)
-    (cond (operationLong q) (Refused Long)
-    (cond (bufferWrong q) (Refused Buffer)
+    cond (noSuchListenKind (q .call) (q .words)) (Refused NoSuchCall)
+    (cond (addressWide (q .call) (q .words)) (Refused Address)
+    (cond (listWrong (q .call) (q .operations) (q .size)) (Refused BadList)
+    (cond (operationLong (q .call) (q .operations)) (Refused Long)
+    (cond (bufferWrong (q .call) (q .size)) (Refused Buffer)
     (Accepted (q .call))))))
 
 abbrev pub requestOf : Call → Description → List ℕ → ℕ → Request
@@ -158,31 +157,34 @@ groupOf TransferClear = blocks
 groupOf (ModifyRead m) = modifyGroup m
 groupOf (ModifyWrite m) = modifyGroup m
 
+-- which groups a call takes; a call with no piece takes no step that moves bytes
+unfoldable pub hasIn : Call → Description → Bool → Group → Bool
+hasIn c d some any = true
+hasIn c d some starts = transaction c && some
+hasIn c d some move = (transaction c || (receives c || transmits c)) && some
+hasIn c d some stop = eventful c || (transaction c && some)
+hasIn c d some errors = eventful c || ((transaction c || (receives c || transmits c)) && some)
+hasIn c d some nack = (transaction c || transmits c) && some
+hasIn c d some timing = call c 1 || call c 2
+hasIn c d some own = (call c 1 || (call c 2 || call c 3)) && configured c d
+hasIn c d some second = (call c 1 || (call c 2 || call c 3)) && (configured c d && hasSecondary d)
+hasIn c d some enable = call c 1
+hasIn c d some reset = call c 6
+hasIn c d some events = eventful c
+hasIn c d some blocks = (manual c && (receives c || transmits c)) && some
+hasIn c d some peOff = call c 1 || (call c 2 || call c 6)
+hasIn c d some peOn = call c 2 || call c 6
+hasIn c d some listen = call c 4 || call c 5
+hasIn c d some nackSet = call c 15 || ((receives c && not (manual c)) && some)
+hasIn c d some reloadOff = call c 14 || call c 15
+hasIn c d some manualEvents = manual c && eventful c
+
 -- the call has a piece
 abbrev pub some : Request → Bool
 some q = viewAt (piecesOf q) 0 .some
 
--- which groups a call takes; a call with no piece takes no step that moves bytes
-unfoldable pub has : Request → Group → Bool
-has q any = true
-has q starts = transaction (q .call) && some q
-has q move = (transaction (q .call) || (receives (q .call) || transmits (q .call))) && some q
-has q stop = eventful (q .call) || (transaction (q .call) && some q)
-has q errors = eventful (q .call) || ((transaction (q .call) || (receives (q .call) || transmits (q .call))) && some q)
-has q nack = (transaction (q .call) || transmits (q .call)) && some q
-has q timing = call (q .call) 1 || call (q .call) 2
-has q own = (call (q .call) 1 || (call (q .call) 2 || call (q .call) 3)) && configured (q .call) (q .words)
-has q second = (call (q .call) 1 || (call (q .call) 2 || call (q .call) 3)) && (configured (q .call) (q .words) && hasSecondary (q .words))
-has q enable = call (q .call) 1
-has q reset = call (q .call) 6
-has q events = eventful (q .call)
-has q blocks = (manual (q .call) && (receives (q .call) || transmits (q .call))) && some q
-has q peOff = call (q .call) 1 || (call (q .call) 2 || call (q .call) 6)
-has q peOn = call (q .call) 2 || call (q .call) 6
-has q listen = call (q .call) 4 || call (q .call) 5
-has q nackSet = call (q .call) 15 || ((receives (q .call) && not (manual (q .call))) && some q)
-has q reloadOff = call (q .call) 14 || call (q .call) 15
-has q manualEvents = manual (q .call) && eventful (q .call)
+abbrev pub has : Request → Group → Bool
+has q g = hasIn (q .call) (q .words) (some q) g
 
 abbrev pub takes : Request → Step → Bool
 takes q t = has q (groupOf t)
