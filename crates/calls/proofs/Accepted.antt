@@ -17,11 +17,12 @@ use Rattle.calls.specs.declared.Step.{Step}
 use Rattle.calls.specs.declared.Step.the-variants.{Ended, Byte, Address}
 use Rattle.calls.specs.declared.Then.{Then}
 use Rattle.calls.specs.declared.Then.the-variants.{Goes, Loads, Notes, Next, Enters, Fails, Ends}
+use Rattle.calls.specs.declared.View.{View}
 use Rattle.calls.proofs.Logic.{only, only-not, only-if, if-only, and-in, or-0, or-1, or-else, by-test, both}
 use Rattle.calls.proofs.Every.{implied}
 pub use Rattle.calls.proofs.Every.{is-eq}
 use Rattle.calls.proofs.Fits.{Fits, plain, fits}
-use Rattle.calls.proofs.Views.{notedIn, after-noted, thereIn, sizeIn}
+use Rattle.calls.proofs.Views.{notedIn, thenIn, after-noted, thereIn, sizeIn}
 
 -- what row 13 leaves of a saved call that has not ended
 pub record Known (q : Request) (s : SavedCall) : Type 0 where
@@ -50,30 +51,35 @@ unfolding accepts
 same-call q s h = and-l (eqb (s .call) (numberOf (q .call))) _ h
 
 -- what a step notes leaves the piece, and the byte number within its bounds
-pub record Noted (q : Request) (s s′ : SavedCall) : Type 0 where
-  pub call-kept : s′ .call ≡ s .call
-  pub piece : s′ .piece < max 1 (length (piecesOf q))
-  pub byte : s′ .byte ≤ sizeIn q s′ + 1
+pub record Noted (q : Request) (s : SavedCall) : Type 0 where
+  pub piece : s .piece < max 1 (length (piecesOf q))
+  pub byte : s .byte ≤ sizeIn q s + 1
 
-pub notes-well : (q : Request) (s : SavedCall) (a : ℕ) (t : Step) → Known q s → Noted q s (noted (viewOf q s) s a t)
+pub notes-well : (q : Request) (s : SavedCall) (a : ℕ) (t : Step) → Known q s → Noted q (noted (viewOf q s) s a t)
 notes-well q s a t k =
-    by-test (Noted q s) (is t Byte) (λ _. search arith) (λ _.
-    by-test (Noted q s) (is t Address) (λ _. search) (λ _. search))
+    by-test (Noted q) (is t Byte) (λ _. search arith) (λ _.
+    by-test (Noted q) (is t Address) (λ _. search) (λ _. search))
+
+noted-call : (v : View) (s : SavedCall) (a : ℕ) (t : Step) → noted v s a t .call ≡ s .call
+noted-call v s a t = by-test P (is t Byte) (λ _. refl) (λ _. by-test P (is t Address) (λ _. refl) (λ _. refl))
+  where
+    P : SavedCall → Type 0
+    P x = x .call ≡ s .call
 
 no-byte : (q : Request) (s : SavedCall) (u : Step) → T (plain u) → only (is u Byte) (T (thereIn q s))
 no-byte q s u p = search (only-not, and-l)
 
 -- by cases on what follows, not on the steps
-applied : (q : Request) (s₀ s : SavedCall) (a : ℕ) (t : Step) (n : Then) →
-    Noted q s₀ s → Fits q s t n → Known q (applyOf s a n)
-applied q s₀ s a t (Goes u) k f = search
-applied q s₀ s a t (Loads u) k f = search no-byte
-applied q s₀ s a t (Notes o u) k f = search no-byte
-applied q s₀ s a t (Next u) k f =
+applied : (q : Request) (s : SavedCall) (a : ℕ) (t : Step) (n : Then) →
+    Noted q s → Fits q s t n → Known q (applyOf s a n)
+applied q s a t (Goes u) k f = search
+applied q s a t (Loads u) k f = search no-byte
+applied q s a t (Notes o u) k f = search no-byte
+applied q s a t (Next u) k f =
     let h : s .piece + 1 < length (piecesOf q) = nleb→lt _ _ (f .why .1) in search (no-byte, arith)
-applied q s₀ s a t (Enters u) k f = search (no-byte, arith)
-applied q s₀ s a t (Fails o) k f = search tt
-applied q s₀ s a t (Ends o) k f = search tt
+applied q s a t (Enters u) k f = search (no-byte, arith)
+applied q s a t (Fails o) k f = search tt
+applied q s a t (Ends o) k f = search tt
 
 apply-call : (s : SavedCall) (a : ℕ) (n : Then) → applyOf s a n .call ≡ s .call
 apply-call s a (Goes u) = refl
@@ -84,19 +90,23 @@ apply-call s a (Enters u) = refl
 apply-call s a (Fails o) = refl
 apply-call s a (Ends o) = refl
 
+-- an access leaves what row 13 asks, of a call that it ends too
+pub known-after : (q : Request) (s : SavedCall) (a : ℕ) → T (not (is (s .step) Ended)) → Known q s → Known q (afterOf q s a)
+known-after q s a n k =
+    let s′ : SavedCall = notedIn q s a in
+    let m : Noted q s′ = notes-well q s a (s .step) k in
+    subst⁻¹ (Known q) (after-noted q s a)
+    (applied q s′ a (s .step) (thenIn q s a) m (fits q s′ a (s .step) (m .piece) n (k .taken)))
+
+call-after : (q : Request) (s : SavedCall) (a : ℕ) → afterOf q s a .call ≡ s .call
+call-after q s a = rw (after-noted q s a, apply-call (notedIn q s a) a (thenIn q s a)) (noted-call (viewOf q s) s a (s .step))
+
 pub accepted-after : (q : Request) (s : SavedCall) (a : ℕ) → T (accepts q s) → T (accepts q (afterOf q s a))
 unfolding afterOf
 accepted-after q s a h =
     both (is (s .step) Ended)
     (λ e. let i = is-eq (s .step) Ended e in accept-ended q (afterOf q s a) (rw i (same-call q s h)) (rw i tt))
-    (λ n.
-    let k : Known q s = known q s h n in
-    let s′ : SavedCall = notedIn q s a in
-    let t : Then = thenAt (q .call) (q .words) (viewOf q s′) s′ a (s .step) in
-    let m : Noted q s s′ = notes-well q s a (s .step) k in
-    subst⁻¹ (λ (x : SavedCall). T (accepts q x)) (after-noted q s a)
-    (accept q (applyOf s′ a t) (rw (apply-call s′ a t, m .call-kept) (same-call q s h))
-    (applied q s s′ a (s .step) t m (fits q s′ a (s .step) (m .piece) n (k .taken)))))
+    (λ n. accept q (afterOf q s a) (rw (call-after q s a) (same-call q s h)) (known-after q s a n (known q s h n)))
 
 -- a call with a piece moves bytes
 some-target : (q : Request) → T (some q) → T (not (transaction (q .call))) → T (receives (q .call) || transmits (q .call))
