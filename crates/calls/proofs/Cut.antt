@@ -185,7 +185,7 @@ got A s R m e =
     }
 
 -- its words, read back from the log
-two-each : (es : List Entry) → length (wordsOf es) ≡ 2 * length es
+pub two-each : (es : List Entry) → length (wordsOf es) ≡ 2 * length es
 two-each [] = refl
 two-each (e ∷ es) = omega (arith, two-each es)
 

@@ -1,70 +1,25 @@
 -- Demand 3: what holds of the uncut run holds of every list of advances. `demand-3` is the theorem. Assumes nothing.
 use Prim.Native.Nat.{ℕ, min}
-use native.Mathlib.Omega.{arith}
 use mathlib.Core.Path.{_≡_, refl, ap, _∙_, subst}
-use mathlib.Core.Bool.{Bool, true, false, not, _&&_, _||_}
 use mathlib.Core.List.{List, [], _++_}
-use lib.Dec.{T, eqb, ltb, eqb→eq}
 use lib.ListN.{length}
 use Rattle.calls.specs.Advances.{Advance, Follows, given, made, OneRun, CutAnywhere}
 use Rattle.calls.specs.Bytes.{BytesOut, BytesIn, Count, EndedAs}
-use Rattle.calls.specs.Calls.{Request, transaction}
+use Rattle.calls.specs.Calls.{Request}
 use Rattle.calls.specs.Demand.{left, Kept, Demand3}
-use Rattle.calls.specs.Refusals.{noSuchListenKind, addressWide, total, anyOf, strangeBits, listWrong, operationLong, bufferWrong, verdictOf, requestOf, verdictBy, lookupOf, checkOf}
+use Rattle.calls.specs.Refusals.{requestOf, checkOf}
 use Rattle.calls.specs.Run.{Uncut, uncutOf, begunOf}
 use Rattle.calls.specs.Steps.{beginOf}
 use Rattle.calls.specs.declared.Call.{Call}
 use Rattle.calls.specs.declared.Description.{Description}
-use Rattle.calls.specs.declared.Lookup.{Lookup}
-use Rattle.calls.specs.declared.Lookup.the-variants.{Listed, Unlisted}
 use Rattle.calls.specs.declared.Outcome.the-variants.{Done}
-use Rattle.calls.specs.declared.Refusal.{Refusal}
 use Rattle.calls.specs.declared.Verdict.{Verdict}
 use Rattle.calls.specs.declared.Verdict.the-variants.{Accepted, Refused}
 use Rattle.calls.proofs.Counter.{counts-accesses}
 use Rattle.calls.proofs.Counts.{done-count}
 use Rattle.calls.proofs.Cut.{cut-anywhere}
-use Rattle.calls.proofs.Logic.{by-test}
+use Rattle.calls.proofs.Fit.{accepted-fit}
 use Rattle.calls.proofs.Moved.{bytes-out, bytes-in}
-
--- an accepted list sums to the buffer
-sums : (t a b e : Bool) → T (not (t && (a || (b || not e)))) → T t → T e
-sums true true b e h x = absurd h
-sums true false true e h x = absurd h
-sums true false false true h x = tt
-sums true false false false h x = absurd h
-sums false a b e h x = absurd x
-
-record Passed (q : Request) (c : Call) : Type 0 where
-  call : q .call ≡ c
-  list : T (not (listWrong (q .call) (q .operations) (q .size)))
-
-passed : (q : Request) (c : Call) → verdictOf q ≡ Accepted c → Passed q c
-unfolding verdictOf
-passed q c e =
-    by-test P (noSuchListenKind (q .call) (q .words)) (λ _ e. refused e) (λ _.
-    by-test P (addressWide (q .call) (q .words)) (λ _ e. refused e) (λ _.
-    by-test P (listWrong (q .call) (q .operations) (q .size)) (λ _ e. refused e) (λ l.
-    by-test P (operationLong (q .call) (q .operations)) (λ _ e. refused e) (λ _.
-    by-test P (bufferWrong (q .call) (q .size)) (λ _ e. refused e) (λ _ e. record { call = cc; list = l }))))) e
-  where
-    P : Verdict → Type 0
-    P v = v ≡ Accepted c → Passed q c
-
-    refused : {r : Refusal} → Refused r ≡ Accepted c → Passed q c
-    refused e = let z : _≡_ {A = ℕ} 0 1 = cc in absurd (omega arith)
-
-sum : (c : Call) (d : Description) (ops : List ℕ) (n : ℕ) → checkOf d ops n ≡ Accepted c → T (transaction c) → total ops ≡ n
-unfolding checkOf
-sum c d ops n e t = go (lookupOf (d .call)) e
-  where
-    go : (l : Lookup) → verdictBy l d ops n ≡ Accepted c → total ops ≡ n
-    go Unlisted e = let z : _≡_ {A = ℕ} 0 1 = cc in absurd (omega arith)
-    go (Listed c′) e =
-        let p = passed (requestOf c′ d ops n) c e in
-        let x : T (transaction c′) = rw (p .call) t in
-        eqb→eq (total ops) n
-        (sums (transaction c′) (ltb 64 (length ops)) (anyOf strangeBits ops) (eqb (total ops) n) (p .list) x)
 
 -- what every uncut run is, the advances' run is
 of-run : (q : Request) (b : List ℕ) (As : List Advance) (r : OneRun q b As) (P : Uncut → Type 0)
@@ -78,7 +33,7 @@ kept c d ops b As e r =
     record {
       one-run = r;
       bytes-out = of-run q b As r (BytesOut q b) (λ k l. bytes-out q k b l refl);
-      bytes-in = of-run q b As r (BytesIn q b) (λ k l. bytes-in q k b l refl (sum c d ops (length b) e));
+      bytes-in = of-run q b As r (BytesIn q b) (λ k l. bytes-in q k b l refl (accepted-fit c d ops (length b) e .sum));
       count = of-run q b As r (λ U. (n : ℕ) → EndedAs (Done n) U → Count q b U n) (λ k l n h. done-count q k b l n refl h);
       accesses =
           of-run q b As r (λ U. U .saved .accesses ≡ min (length (U .log)) 4294967295) (λ k l. counts-accesses q k b l)

@@ -9,6 +9,7 @@ pub mod Places
 pub mod Bytes
 pub mod Moved
 pub mod Counts
+pub mod Fit
 pub mod Cut
 pub mod Demand
 pub mod Cases

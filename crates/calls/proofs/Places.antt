@@ -77,7 +77,7 @@ ahead-this w at (p ∷ ps) (suc i) j h l = ahead-this w (at + p .size) ps i j h 
 
 -- ---- Where they lie
 
-abbrev sizes : List Piece → ℕ
+abbrev pub sizes : List Piece → ℕ
 sizes [] = 0
 sizes (p ∷ ps) = p .size + sizes ps
 
@@ -95,7 +95,7 @@ sizes-operations : (os : List ℕ) → sizes (map pieceOf os) ≡ total os
 sizes-operations [] = refl
 sizes-operations (o ∷ os) = omega (arith, sizes-operations os)
 
-sizes-all : (q : Request) → (T (transaction (q .call)) → total (q .operations) ≡ q .size) → sizes (piecesOf q) ≤ q .size
+pub sizes-all : (q : Request) → (T (transaction (q .call)) → total (q .operations) ≡ q .size) → sizes (piecesOf q) ≤ q .size
 unfolding piecesFor
 sizes-all q h =
     by-test P (transaction (q .call)) (λ x. omega (arith, sizes-operations (q .operations), h x)) (λ _.

@@ -264,3 +264,12 @@ pub struct Advanced {
     pub saved: SavedCall,
     pub report: Report,
 }
+
+// The next access of a saved call: the register that it goes to, read or written; or there is none, since the call is over
+// or refused.
+pub enum Next {
+    Over,
+    Read(Register),
+    Write(Register),
+    Refused(Refusal),
+}

@@ -1,0 +1,18 @@
+-- `call::is_eventful` meets its contract: each return by the tests that led there. Assumes nothing.
+use Rattle.access.proofs.Branch.{branches}
+use borrow.Author.Needs.{needs}
+use Rattle.access.proofs.call.is_eventful.Statement.{statement}
+use Rattle.access.proofs.call.is_eventful.Tie as tie
+
+pub is-eventful-spec : {M : Type 1} → statement M
+is-eventful-spec =
+    tie.close
+    (tie.spec
+    (λ c κs. search needs)
+    (λ c κs. search needs)
+    (λ c κs. search needs)
+    (λ c κs. search needs)
+    (λ c. search branches)
+    (λ c. search branches)
+    (λ c. search branches)
+    (λ c. search branches))

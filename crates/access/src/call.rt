@@ -1,0 +1,163 @@
+// What a call is: its number, its kind, and what its description has; and what an outcome is.
+ghost use mathlib.Core.Path.{_≡_};
+ghost use mathlib.Core.Bool.{_&&_, not};
+ghost use Prim.Native.Nat.{_<_};
+ghost use Rattle.calls.specs.Calls.{byAck, numberOf, call, kinds, transaction, manual, receives, transmits, eventful, configured, hasSecondary, hasMask};
+ghost use Rattle.calls.specs.Outcomes.{isDone, isEventRead, outcomeValue};
+use calls::Ack;
+use calls::Call;
+use calls::Description;
+use calls::Outcome;
+use calls::TargetConfig;
+
+fn by_ack(n: u32, a: Ack) -> u32
+    requires { ⌜ n < 16 ⌝ }
+    ensures { λ r. ⌜ r ≡ byAck n a ⌝ }
+{
+    match a {
+        Ack::AutoAck => n,
+        Ack::ManualAck => n + 16,
+    }
+}
+
+pub fn number(c: Call) -> u32
+    ensures { λ r. ⌜ r ≡ numberOf c ⌝ }
+{
+    match c {
+        Call::New => 1,
+        Call::TargetNew => 2,
+        Call::ConfigureTargetAddresses => 3,
+        Call::EnableTargetEvent => 4,
+        Call::DisableTargetEvent => 5,
+        Call::Reset => 6,
+        Call::Transaction => 7,
+        Call::WaitForEvent(a) => by_ack(8, a),
+        Call::Read(a) => by_ack(9, a),
+        Call::Write(a) => by_ack(10, a),
+        Call::WaitForTargetRead(a) => by_ack(11, a),
+        Call::WaitForTargetWrite(a) => by_ack(12, a),
+        Call::WaitForStop(a) => by_ack(13, a),
+        Call::AckTransfer => 14,
+        Call::NackTransfer => 15,
+    }
+}
+
+pub fn is_call(c: Call, n: u32) -> bool
+    ensures { λ r. ⌜ r ≡ call c n ⌝ }
+{
+    number(c) == n
+}
+
+// In either acknowledge mode.
+pub fn is_kind(c: Call, n: u8) -> bool
+    ensures { λ r. ⌜ r ≡ kinds c n ⌝ }
+{
+    let m = n as u32;
+    is_call(c, m) || is_call(c, m + 16)
+}
+
+pub fn is_transaction(c: Call) -> bool
+    ensures { λ r. ⌜ r ≡ transaction c ⌝ }
+{
+    is_call(c, 7)
+}
+
+pub fn is_manual(c: Call) -> bool
+    ensures { λ r. ⌜ r ≡ manual c ⌝ }
+{
+    number(c) >= 16
+}
+
+pub fn is_receiver(c: Call) -> bool
+    ensures { λ r. ⌜ r ≡ receives c ⌝ }
+{
+    is_kind(c, 9) || is_kind(c, 11)
+}
+
+pub fn is_auto_receiver(c: Call) -> bool
+    ensures { λ r. ⌜ r ≡ (receives c && not (manual c)) ⌝ }
+{
+    is_receiver(c) && !is_manual(c)
+}
+
+pub fn is_transmitter(c: Call) -> bool
+    ensures { λ r. ⌜ r ≡ transmits c ⌝ }
+{
+    is_kind(c, 10) || is_kind(c, 12)
+}
+
+pub fn is_eventful(c: Call) -> bool
+    ensures { λ r. ⌜ r ≡ eventful c ⌝ }
+{
+    is_kind(c, 8) || (is_kind(c, 11) || (is_kind(c, 12) || is_kind(c, 13)))
+}
+
+pub fn is_configured(c: Call, d: Description) -> bool
+    ensures { λ r. ⌜ r ≡ configured c d ⌝ }
+{
+    !is_call(c, 1) || d.configured
+}
+
+pub fn has_secondary(d: Description) -> bool
+    ensures { λ r. ⌜ r ≡ hasSecondary d ⌝ }
+{
+    d.config.secondary != TargetConfig::NONE
+}
+
+pub fn has_mask(d: Description) -> bool
+    ensures { λ r. ⌜ r ≡ hasMask d ⌝ }
+{
+    d.config.mask != TargetConfig::NONE
+}
+
+pub fn is_done(o: Outcome) -> bool
+    ensures { λ r. ⌜ r ≡ isDone o ⌝ }
+{
+    match o {
+        Outcome::Done(_) => true,
+        Outcome::Bus => false,
+        Outcome::Arbitration => false,
+        Outcome::Nack => false,
+        Outcome::Stopped => false,
+        Outcome::ExpectedWrite => false,
+        Outcome::ExpectedRead => false,
+        Outcome::EventRead(_) => false,
+        Outcome::EventWrite(_) => false,
+        Outcome::EventStop => false,
+    }
+}
+
+pub fn is_event_read(o: Outcome) -> bool
+    ensures { λ r. ⌜ r ≡ isEventRead o ⌝ }
+{
+    match o {
+        Outcome::Done(_) => false,
+        Outcome::Bus => false,
+        Outcome::Arbitration => false,
+        Outcome::Nack => false,
+        Outcome::Stopped => false,
+        Outcome::ExpectedWrite => false,
+        Outcome::ExpectedRead => false,
+        Outcome::EventRead(_) => true,
+        Outcome::EventWrite(_) => false,
+        Outcome::EventStop => false,
+    }
+}
+
+// The count of bytes or the address that an outcome comes with.
+pub fn value(o: Outcome) -> u32
+    ensures { λ r. ⌜ r ≡ outcomeValue o ⌝ }
+{
+    match o {
+        Outcome::Done(n) => n,
+        Outcome::Bus => 0,
+        Outcome::Arbitration => 0,
+        Outcome::Nack => 0,
+        Outcome::Stopped => 0,
+        Outcome::ExpectedWrite => 0,
+        Outcome::ExpectedRead => 0,
+        Outcome::EventRead(n) => n,
+        Outcome::EventWrite(n) => n,
+        Outcome::EventStop => 0,
+    }
+}

@@ -1,0 +1,160 @@
+// The words that a call writes into control registers. A modify's word keeps what was read but for its fields.
+ghost use mathlib.Core.Path.{_≡_};
+ghost use Rattle.calls.specs.Words.{transfer, addressed, cr2Of, targetTiming, timingrOf, oar1Of, oar2Of, listenRegister, registerOf, enabledWord, listenWord, alterOf};
+use crate::call;
+use calls::Call;
+use calls::Description;
+use calls::Modify;
+use calls::View;
+use registers::Cr1;
+use registers::Cr2;
+use registers::Oar1;
+use registers::Oar2;
+use registers::Register;
+use timing::I2cTiming;
+
+fn transfer_word(v: View) -> u32
+    ensures { λ r. ⌜ r ≡ transfer v ⌝ }
+{
+    let w = Cr2(Cr2::RESET).with_nbytes(v.size).with_rd_wrn(v.reads);
+    if v.last {
+        return w.with_autoend(true).0;
+    }
+    if v.same {
+        return w.with_reload(true).0;
+    }
+    w.0
+}
+
+fn with_address(d: Description, again: bool, w: u32) -> u32
+    ensures { λ r. ⌜ r ≡ addressed d again w ⌝ }
+{
+    if d.ten {
+        return Cr2(w).with_sadd(d.address)
+            .with_add10(true)
+            .with_head10r(again)
+            .0;
+    }
+    Cr2(w).with_sadd(d.address << 1).0
+}
+
+// Begins an operation; `again` where the start is repeated.
+pub fn cr2_word(d: Description, v: View, again: bool) -> u32
+    ensures { λ r. ⌜ r ≡ cr2Of d v again ⌝ }
+{
+    let w = transfer_word(v);
+    if v.reload {
+        return w;
+    }
+    with_address(d, again, Cr2(w).with_start(true).0)
+}
+
+fn target_timing(t: I2cTiming) -> I2cTiming
+    ensures { λ r. ⌜ r ≡ targetTiming t ⌝ }
+{
+    I2cTiming {
+        presc: t.presc,
+        scldel: t.scldel,
+        sdadel: t.sdadel,
+        sclh: 0,
+        scll: 0,
+    }
+}
+
+pub fn timingr_word(c: Call, d: Description) -> u32
+    ensures { λ r. ⌜ r ≡ timingrOf c d ⌝ }
+{
+    let raw = d.timing;
+    let t = raw.unpack();
+    if call::is_call(c, 2) {
+        return target_timing(t).word().0;
+    }
+    t.word().0
+}
+
+pub fn oar1_word(d: Description) -> u32
+    ensures { λ r. ⌜ r ≡ oar1Of d ⌝ }
+{
+    if d.config.ten {
+        return Oar1::ten_bit(d.config.own).0;
+    }
+    Oar1::seven_bit(d.config.own).0
+}
+
+pub fn oar2_word(d: Description) -> u32
+    ensures { λ r. ⌜ r ≡ oar2Of d ⌝ }
+{
+    if call::has_mask(d) {
+        return Oar2::masked(d.config.secondary, d.config.mask).0;
+    }
+    Oar2::secondary(d.config.secondary).0
+}
+
+fn listen_register(kind: u32) -> Register
+    ensures { λ r. ⌜ r ≡ listenRegister kind ⌝ }
+{
+    if kind == 0 {
+        return Register::Cr1;
+    }
+    if kind == 1 {
+        return Register::Oar1;
+    }
+    Register::Oar2
+}
+
+pub fn register_of(d: Description, m: Modify) -> Register
+    ensures { λ r. ⌜ r ≡ registerOf d m ⌝ }
+{
+    match m {
+        Modify::PeOff => Register::Cr1,
+        Modify::PeOn => Register::Cr1,
+        Modify::Listen => listen_register(d.listen),
+        Modify::NackSet => Register::Cr2,
+        Modify::ReloadOff => Register::Cr2,
+        Modify::SbcOff => Register::Cr1,
+        Modify::ReloadClear => Register::Cr2,
+        Modify::SbcOn => Register::Cr1,
+        Modify::ReloadOn => Register::Cr2,
+        Modify::NbytesSet => Register::Cr2,
+    }
+}
+
+fn enabled_word(c: Call, w: u32) -> u32
+    ensures { λ r. ⌜ r ≡ enabledWord c w ⌝ }
+{
+    if call::is_call(c, 2) {
+        return Cr1(w).with_anfoff(false).with_pe(true).0;
+    }
+    Cr1(w).with_pe(true).0
+}
+
+fn listen_word(c: Call, kind: u32, w: u32) -> u32
+    ensures { λ r. ⌜ r ≡ listenWord c kind w ⌝ }
+{
+    let on = call::is_call(c, 4);
+    if kind == 0 {
+        return Cr1(w).with_gcen(on).0;
+    }
+    if kind == 1 {
+        return Oar1(w).with_oa1en(on).0;
+    }
+    Oar2(w).with_oa2en(on).0
+}
+
+// What a modify writes, of the word that it read.
+pub fn alter(c: Call, d: Description, v: View, w: u32, m: Modify) -> u32
+    ensures { λ r. ⌜ r ≡ alterOf c d v w m ⌝ }
+{
+    match m {
+        Modify::PeOff => Cr1(w).with_pe(false).0,
+        Modify::PeOn => enabled_word(c, w),
+        Modify::Listen => listen_word(c, d.listen, w),
+        Modify::NackSet => Cr2(w).with_nack(true).0,
+        Modify::ReloadOff => Cr2(w).with_reload(false).0,
+        Modify::SbcOff => Cr1(w).with_sbc(false).0,
+        Modify::ReloadClear => Cr2(w).with_reload(false).with_nbytes(0).0,
+        Modify::SbcOn => Cr1(w).with_sbc(true).0,
+        Modify::ReloadOn => Cr2(w).with_reload(true).0,
+        Modify::NbytesSet => Cr2(w).with_nbytes(v.size).0,
+    }
+}

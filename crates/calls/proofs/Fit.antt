@@ -1,0 +1,75 @@
+-- What rows 10 and 11 leave of an accepted call's operations and buffer. Assumes nothing.
+use Prim.Native.Nat.{ℕ, _≤_}
+use native.Mathlib.Omega.{arith}
+use mathlib.Core.Path.{_≡_}
+use mathlib.Core.Bool.{Bool, true, false, not, _&&_, _||_}
+use mathlib.Core.List.{List}
+use lib.Dec.{T, eqb, ltb, eqb→eq, nltb→le}
+use lib.ListN.{length}
+use Rattle.calls.specs.Calls.{call, transaction}
+use Rattle.calls.specs.Refusals.{noSuchListenKind, addressWide, total, anyOf, strangeBits, listWrong, operationLong, bufferWrong, verdictOf, requestOf, verdictBy, lookupOf, checkOf}
+use Rattle.calls.specs.declared.Call.{Call}
+use Rattle.calls.specs.declared.Description.{Description}
+use Rattle.calls.specs.declared.Lookup.{Lookup}
+use Rattle.calls.specs.declared.Lookup.the-variants.{Listed, Unlisted}
+use Rattle.calls.specs.declared.Refusal.{Refusal}
+use Rattle.calls.specs.declared.Verdict.{Verdict}
+use Rattle.calls.specs.declared.Verdict.the-variants.{Accepted, Refused}
+use Rattle.calls.proofs.Logic.{by-test, nor-1}
+
+pub record Fit (c : Call) (ops : List ℕ) (n : ℕ) : Type 0 where
+  pub size : n ≤ 65535
+  pub few : T (transaction c) → length ops ≤ 64
+  pub sum : T (transaction c) → total ops ≡ n
+
+-- the rows that an accepted call passed
+record Passed (c : Call) (ops : List ℕ) (n : ℕ) : Type 0 where
+  list : T (not (listWrong c ops n))
+  buffer : T (not (bufferWrong c n))
+
+passed : (c₀ c : Call) (d : Description) (ops : List ℕ) (n : ℕ) → verdictOf (requestOf c₀ d ops n) ≡ Accepted c
+    → Passed c ops n
+unfolding verdictOf
+passed c₀ c d ops n =
+    by-test P (noSuchListenKind c₀ d) (λ _ e. refused e) (λ _.
+    by-test P (addressWide c₀ d) (λ _ e. refused e) (λ _.
+    by-test P (listWrong c₀ ops n) (λ _ e. refused e) (λ i.
+    by-test P (operationLong c₀ ops) (λ _ e. refused e) (λ _.
+    by-test P (bufferWrong c₀ n) (λ _ e. refused e) (λ k e.
+    let same : c ≡ c₀ = cc in rw same (record { list = i; buffer = k }))))))
+  where
+    P : Verdict → Type 0
+    P v = v ≡ Accepted c → Passed c ops n
+
+    refused : {r : Refusal} → Refused r ≡ Accepted c → Passed c ops n
+    refused e = let z : _≡_ {A = ℕ} 0 1 = cc in absurd (omega arith)
+
+checked : (c : Call) (d : Description) (ops : List ℕ) (n : ℕ) → checkOf d ops n ≡ Accepted c → Passed c ops n
+unfolding checkOf
+checked c d ops n = go (lookupOf (d .call))
+  where
+    go : (l : Lookup) → verdictBy l d ops n ≡ Accepted c → Passed c ops n
+    go Unlisted e = let z : _≡_ {A = ℕ} 0 1 = cc in absurd (omega arith)
+    go (Listed c₀) e = passed c₀ c d ops n e
+
+-- the list of a transaction: not too many, and the whole buffer
+list-fits : (t a b e : Bool) → T (not (t && (a || (b || not e)))) → T t → T (not a) × T e
+list-fits true true b e h x = absurd h
+list-fits true false true e h x = absurd h
+list-fits true false false true h x = (tt, tt)
+list-fits true false false false h x = absurd h
+list-fits false a b e h x = absurd x
+
+pub accepted-fit : (c : Call) (d : Description) (ops : List ℕ) (n : ℕ) → checkOf d ops n ≡ Accepted c → Fit c ops n
+accepted-fit c d ops n e =
+    let p = checked c d ops n e in
+    record {
+      size =
+          nltb→le 65535 n
+          (nor-1 ((call c 9 || (call c 10 || (call c 11 || call c 12))) && eqb n 0) (ltb 65535 n) (p .buffer));
+      few = λ t. nltb→le 64 (length ops) (fits (p .list) t .0);
+      sum = λ t. eqb→eq (total ops) n (fits (p .list) t .1);
+    }
+  where
+    fits : T (not (listWrong c ops n)) → T (transaction c) → T (not (ltb 64 (length ops))) × T (eqb (total ops) n)
+    fits = list-fits (transaction c) (ltb 64 (length ops)) (anyOf strangeBits ops) (eqb (total ops) n)

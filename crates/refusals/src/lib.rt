@@ -1,0 +1,234 @@
+// Document 01's table of refusals, rows 12, 8, 10, 9 and 11: the first that fits is given. A row's tests are cheap, and
+// `&` and `|` take them all; only the operation list is left alone where the call is no transaction.
+ghost use mathlib.Core.Path.{_≡_};
+ghost use Prim.Native.Nat.{_≤_};
+ghost use lib.ListN.{length};
+ghost use Rattle.calls.specs.Refusals.{lookupOf, noSuchListenKind, tooWide, configWide, addressWide, lengthOf, total, anyOf, strangeBits, listWrong, tooLong, operationLong, bufferWrong, requestOf, verdictOf, checkOf};
+use access::call;
+use calls::Ack;
+use calls::Call;
+use calls::Description;
+use calls::Lookup;
+use calls::Refusal;
+use calls::Verdict;
+
+// The listed call of a number.
+pub fn lookup(n: u32) -> Lookup
+    ensures { λ r. ⌜ r ≡ lookupOf n ⌝ }
+{
+    if n == 1 {
+        return Lookup::Listed(Call::New);
+    }
+    if n == 2 {
+        return Lookup::Listed(Call::TargetNew);
+    }
+    if n == 3 {
+        return Lookup::Listed(Call::ConfigureTargetAddresses);
+    }
+    if n == 4 {
+        return Lookup::Listed(Call::EnableTargetEvent);
+    }
+    if n == 5 {
+        return Lookup::Listed(Call::DisableTargetEvent);
+    }
+    if n == 6 {
+        return Lookup::Listed(Call::Reset);
+    }
+    if n == 7 {
+        return Lookup::Listed(Call::Transaction);
+    }
+    if n == 8 {
+        return Lookup::Listed(Call::WaitForEvent(Ack::AutoAck));
+    }
+    if n == 9 {
+        return Lookup::Listed(Call::Read(Ack::AutoAck));
+    }
+    if n == 10 {
+        return Lookup::Listed(Call::Write(Ack::AutoAck));
+    }
+    if n == 11 {
+        return Lookup::Listed(Call::WaitForTargetRead(Ack::AutoAck));
+    }
+    if n == 12 {
+        return Lookup::Listed(Call::WaitForTargetWrite(Ack::AutoAck));
+    }
+    if n == 13 {
+        return Lookup::Listed(Call::WaitForStop(Ack::AutoAck));
+    }
+    if n == 14 {
+        return Lookup::Listed(Call::AckTransfer);
+    }
+    if n == 15 {
+        return Lookup::Listed(Call::NackTransfer);
+    }
+    if n == 24 {
+        return Lookup::Listed(Call::WaitForEvent(Ack::ManualAck));
+    }
+    if n == 25 {
+        return Lookup::Listed(Call::Read(Ack::ManualAck));
+    }
+    if n == 26 {
+        return Lookup::Listed(Call::Write(Ack::ManualAck));
+    }
+    if n == 27 {
+        return Lookup::Listed(Call::WaitForTargetRead(Ack::ManualAck));
+    }
+    if n == 28 {
+        return Lookup::Listed(Call::WaitForTargetWrite(Ack::ManualAck));
+    }
+    if n == 29 {
+        return Lookup::Listed(Call::WaitForStop(Ack::ManualAck));
+    }
+    Lookup::Unlisted
+}
+
+// 12, no such call: calls 4 and 5 name one of three listen kinds.
+fn is_no_listen_kind(c: Call, d: Description) -> bool
+    ensures { λ r. ⌜ r ≡ noSuchListenKind c d ⌝ }
+{
+    (call::is_call(c, 4) | call::is_call(c, 5)) & (d.listen > 2)
+}
+
+// 8, address: each in its seven or ten bits, and a mask of at most six.
+fn is_too_wide(ten: bool, address: u32) -> bool
+    ensures { λ r. ⌜ r ≡ tooWide ten address ⌝ }
+{
+    if ten {
+        return address > 1023;
+    }
+    address > 127
+}
+
+fn is_config_wide(d: Description) -> bool
+    ensures { λ r. ⌜ r ≡ configWide d ⌝ }
+{
+    is_too_wide(d.config.ten, d.config.own)
+        | ((call::has_secondary(d) & is_too_wide(false, d.config.secondary))
+            | (call::has_mask(d) & (d.config.mask > 6)))
+}
+
+fn is_address_wide(c: Call, d: Description) -> bool
+    ensures { λ r. ⌜ r ≡ addressWide c d ⌝ }
+{
+    (call::is_transaction(c) & is_too_wide(d.ten, d.address))
+        | (((call::is_call(c, 1) | (call::is_call(c, 2) | call::is_call(c, 3)))
+            & call::is_configured(c, d))
+            & is_config_wide(d))
+}
+
+// 10, list: at most 64 operations, without strange bits, that make up the buffer.
+fn length_of(o: u32) -> u32
+    ensures { λ r. ⌜ r ≡ lengthOf o ⌝ }
+{
+    fields::get(o, 0, 16)
+}
+
+fn is_strange(o: u32) -> bool
+    ensures { λ r. ⌜ r ≡ strangeBits o ⌝ }
+{
+    fields::get(o, 17, 15) != 0
+}
+
+fn has_strange(ops: &[u32]) -> bool
+    ensures { λ r. ⌜ r ≡ anyOf strangeBits (now (ops .entry)) ⌝ }
+{
+    for i in 0..ops.len() {
+        if is_strange(ops[i]) {
+            return true;
+        }
+    }
+    false
+}
+
+// Of at most 64 operations the sum does not overflow.
+fn total_of(ops: &[u32]) -> u32
+    requires { ⌜ length (now ops) ≤ 64 ⌝ }
+    ensures { λ r. ⌜ r ≡ total (now (ops .entry)) ⌝ }
+{
+    let mut sum: u32 = 0;
+    for i in 0..ops.len() {
+        sum += length_of(ops[i]);
+    }
+    sum
+}
+
+fn is_list_wrong(c: Call, ops: &[u32], n: usize) -> bool
+    ensures { λ r. ⌜ r ≡ listWrong c (now (ops .entry)) n ⌝ }
+{
+    if call::is_transaction(c) {
+        if ops.len() > 64 {
+            return true;
+        }
+        return has_strange(ops) | (total_of(ops) as usize != n);
+    }
+    false
+}
+
+// 9, long: an operation that NBYTES cannot count.
+fn is_long(o: u32) -> bool
+    ensures { λ r. ⌜ r ≡ tooLong o ⌝ }
+{
+    length_of(o) > 255
+}
+
+fn has_long(ops: &[u32]) -> bool
+    ensures { λ r. ⌜ r ≡ anyOf tooLong (now (ops .entry)) ⌝ }
+{
+    for i in 0..ops.len() {
+        if is_long(ops[i]) {
+            return true;
+        }
+    }
+    false
+}
+
+fn is_operation_long(c: Call, ops: &[u32]) -> bool
+    ensures { λ r. ⌜ r ≡ operationLong c (now (ops .entry)) ⌝ }
+{
+    if call::is_transaction(c) {
+        return has_long(ops);
+    }
+    false
+}
+
+// 11, buffer: an AutoAck transfer moves a byte, and sixteen bits count the bytes.
+fn is_buffer_wrong(c: Call, n: usize) -> bool
+    ensures { λ r. ⌜ r ≡ bufferWrong c n ⌝ }
+{
+    ((call::is_call(c, 9) | (call::is_call(c, 10) | (call::is_call(c, 11) | call::is_call(c, 12))))
+        & (n == 0))
+        | (n > 65535)
+}
+
+// The verdict on a listed call, by the rows in their order.
+fn verdict(c: Call, d: Description, ops: &[u32], n: usize) -> Verdict
+    ensures { λ r. ⌜ r ≡ verdictOf (requestOf c d (now (ops .entry)) n) ⌝ }
+{
+    if is_no_listen_kind(c, d) {
+        return Verdict::Refused(Refusal::NoSuchCall);
+    }
+    if is_address_wide(c, d) {
+        return Verdict::Refused(Refusal::Address);
+    }
+    if is_list_wrong(c, ops, n) {
+        return Verdict::Refused(Refusal::List);
+    }
+    if is_operation_long(c, ops) {
+        return Verdict::Refused(Refusal::Long);
+    }
+    if is_buffer_wrong(c, n) {
+        return Verdict::Refused(Refusal::Buffer);
+    }
+    Verdict::Accepted(c)
+}
+
+// What begin and advance both look at; n is the lent buffer's length.
+pub fn check(d: Description, ops: &[u32], n: usize) -> Verdict
+    ensures { λ r. ⌜ r ≡ checkOf d (now (ops .entry)) n ⌝ }
+{
+    let l = lookup(d.call);
+    match l {
+        Lookup::Listed(c) => verdict(c, d, ops, n),
+        Lookup::Unlisted => Verdict::Refused(Refusal::NoSuchCall),
+    }
+}
