@@ -1,14 +1,32 @@
 -- What a definition's tests are where the code took a branch: `search branches` closes such a return. Assumes nothing.
-use mathlib.Core.Path.{_≡_, sym, _∙_}
+use mathlib.Core.Path.{_≡_, sym, ap, _∙_}
 use mathlib.Core.Bool.{Bool, true, false, cond, _&&_, _||_, not}
+use lib.Dec.{T}
 
 -- what a test is, from what its function ensures and what it gave
 pub told : {r t b : Bool} → r ≡ t → r ≡ b → t ≡ b
 told e h = sym e ∙ h
 
+-- what a function gave was told to be `is`, and is looked at as that
+pub via : {A B : Type 0} (f : A → B) (r : B) (gave given is : A) → given ≡ gave → given ≡ is → r ≡ f is → r ≡ f gave
+via f r gave given is e g m = m ∙ ap f (sym g ∙ e)
+
 -- and where the code turns it round
 pub not-told : {r t b : Bool} → r ≡ t → not r ≡ b → not t ≡ b
 not-told e h = rw (← e) h
+
+pub un-not : {r b : Bool} → not r ≡ b → r ≡ not b
+un-not {r} h = go r h
+  where
+    go : {b : Bool} (r : Bool) → not r ≡ b → r ≡ not b
+    go true h = ap not h
+    go false h = ap not h
+
+pub holds : {t : Bool} → t ≡ true → T t
+holds h = rw h tt
+
+pub fails : {t : Bool} → t ≡ false → T (not t)
+fails h = rw h tt
 
 pub turned : {r t : Bool} → r ≡ t → not r ≡ not t
 turned e = rw e

@@ -124,13 +124,13 @@ module _ (q : Request) (s : SavedCall) (a : ℕ) (x : T (target q)) where
 
 -- ---- The pieces of a transfer: blocks of 255, or one
 
-block-size : (w : Bool) (f n i : ℕ) → n ≤ f → pieceAt (blocksOf w f n) i .size ≡ min 255 (n - 255 * i)
+pub block-size : (w : Bool) (f n i : ℕ) → n ≤ f → pieceAt (blocksOf w f n) i .size ≡ min 255 (n - 255 * i)
 block-size w zero n i h = omega arith
 block-size w (suc f) zero i h = omega arith
 block-size w (suc f) (suc n) zero h = omega arith
 block-size w (suc f) (suc n) (suc i) h = block-size w f (suc n - 255) i (omega arith) ∙ omega arith
 
-block-count : (w : Bool) (f n : ℕ) → n ≤ f → length (blocksOf w f n) ≡ (n + 254) / 255
+pub block-count : (w : Bool) (f n : ℕ) → n ≤ f → length (blocksOf w f n) ≡ (n + 254) / 255
 block-count w zero n h = omega arith
 block-count w (suc f) zero h = omega arith
 block-count w (suc f) (suc n) h = omega (arith, block-count w f (suc n - 255) (omega arith))

@@ -125,7 +125,7 @@ module _ (q : Request) where
   enable-in = implied q (λ r. has r timing && not (configured (r .call) (r .words))) (λ r. has r enable) tt
 
 -- all pieces of a target call go its way
-block-reads : (w : Bool) (f n i : ℕ) → i < length (blocksOf w f n) → pieceAt (blocksOf w f n) i .reads ≡ w
+pub block-reads : (w : Bool) (f n i : ℕ) → i < length (blocksOf w f n) → pieceAt (blocksOf w f n) i .reads ≡ w
 block-reads w zero n i h = absurd (omega arith)
 block-reads w (suc f) zero i h = absurd (omega arith)
 block-reads w (suc f) (suc n) zero h = refl

@@ -14,6 +14,7 @@ use Rattle.calls.specs.Bytes.{range, placesFrom, bytesAt}
 use Rattle.calls.specs.Calls.{Request, transaction, manual, receives, transmits}
 use Rattle.calls.specs.Pieces.{startFrom, Piece, pieceOf, blocksOf, piecesFor, piecesOf, pieceAt}
 use Rattle.calls.specs.Refusals.{total, anyOf}
+use Rattle.calls.specs.declared.Call.{Call}
 use Rattle.calls.specs.declared.SavedCall.{SavedCall}
 use Rattle.calls.proofs.Logic.{nor-0, nor-1, by-test, both}
 use Rattle.calls.proofs.Views.{sizeIn, placeIn}
@@ -91,21 +92,23 @@ sizes-blocks w zero n h = omega arith
 sizes-blocks w (suc f) zero h = refl
 sizes-blocks w (suc f) (suc n) h = omega (arith, sizes-blocks w f (suc n - 255) (omega arith))
 
-sizes-operations : (os : List ℕ) → sizes (map pieceOf os) ≡ total os
+pub sizes-operations : (os : List ℕ) → sizes (map pieceOf os) ≡ total os
 sizes-operations [] = refl
 sizes-operations (o ∷ os) = omega (arith, sizes-operations os)
 
-pub sizes-all : (q : Request) → (T (transaction (q .call)) → total (q .operations) ≡ q .size) → sizes (piecesOf q) ≤ q .size
+pub sizes-for : (c : Call) (ops : List ℕ) (n : ℕ) → (T (transaction c) → total ops ≡ n) → sizes (piecesFor c ops n) ≤ n
 unfolding piecesFor
-sizes-all q h =
-    by-test P (transaction (q .call)) (λ x. omega (arith, sizes-operations (q .operations), h x)) (λ _.
-    by-test P (receives (q .call) || transmits (q .call))
-    (λ _. by-test P (manual (q .call))
-    (λ _. omega (arith, sizes-blocks (receives (q .call)) (q .size) (q .size) (omega arith))) (λ _. omega arith))
+sizes-for c ops n h =
+    by-test P (transaction c) (λ x. omega (arith, sizes-operations ops, h x)) (λ _.
+    by-test P (receives c || transmits c)
+    (λ _. by-test P (manual c) (λ _. omega (arith, sizes-blocks (receives c) n n (omega arith))) (λ _. omega arith))
     (λ _. omega arith))
   where
     P : List Piece → Type 0
-    P ps = sizes ps ≤ q .size
+    P ps = sizes ps ≤ n
+
+pub sizes-all : (q : Request) → (T (transaction (q .call)) → total (q .operations) ≡ q .size) → sizes (piecesOf q) ≤ q .size
+sizes-all q h = sizes-for (q .call) (q .operations) (q .size) h
 
 -- a byte that is there has its place in the buffer
 pub byte-inside : (q : Request) (s : SavedCall) → (T (transaction (q .call)) → total (q .operations) ≡ q .size) →

@@ -1,0 +1,6 @@
+pub mod Unlike
+pub mod Small
+pub mod Pieces
+pub mod Accepts
+pub mod Loop
+pub mod Demand

@@ -1,0 +1,180 @@
+-- One turn of the loop of advance is one access of the definition: what is still to come, put after what was done, is the
+-- whole advance. Assumes nothing.
+use Prim.Native.Nat.{ℕ, zero, suc, _+_, _-_, _*_, _/_, _<_, _≤_}
+use native.Mathlib.Nat.{add-zero, zero-add}
+use native.Mathlib.Numerals.{add-one}
+use native.Mathlib.Omega.{arith}
+use mathlib.Core.Path.{_≡_, refl, sym, ap, _∙_, subst⁻¹}
+use mathlib.Core.Bool.{Bool, true, false, cond, not}
+use mathlib.Core.List.{List, [], _∷_}
+use lib.Dec.{T, ltb}
+use lib.ListN.{length, getD, set, drop, drop-of-length-le}
+use lib.Seq.{sets, sets-eq, drop-cons}
+use borrow.Author.Tests.{ltb-true, ltb-false}
+use Rattle.registers.specs.declared.Register.{Register}
+use Rattle.registers.specs.declared.Register.the-variants.{Rxdr}
+use Rattle.calls.proofs.Accepted.{Known, known-after}
+use Rattle.calls.proofs.Along.{no-access}
+use Rattle.calls.proofs.Cut.{two-each}
+use Rattle.calls.proofs.Logic.{both, is-true}
+use Rattle.calls.specs.Calls.{Request}
+use Rattle.calls.specs.Pieces.{viewOf}
+use Rattle.calls.specs.Run.{Entry, wordsOf, readEntry, writeEntry, byteOf, Run, wrote, took, stops, turnOf, advanceFrom, Final, finalBy, asFinal}
+use Rattle.calls.specs.Steps.{accessOf, afterIn, afterOf, is}
+use Rattle.calls.specs.declared.Access.{Access}
+use Rattle.calls.specs.declared.Access.the-variants.{Read, Take, Write, Nothing}
+use Rattle.calls.specs.declared.Call.{Call}
+use Rattle.calls.specs.declared.Description.{Description}
+use Rattle.calls.specs.declared.Report.{Report}
+use Rattle.calls.specs.declared.Report.the-variants.{Over, Full}
+use Rattle.calls.specs.declared.SavedCall.{SavedCall}
+use Rattle.calls.specs.declared.Step.the-variants.{Ended}
+use Rattle.calls.specs.declared.View.{View}
+use Rattle.driver.specs.Turn.{Made, asMade, madeBy, madeOf, Turn, asTurn, turnBy, turnOf as turnIn}
+use Rattle.driver.specs.declared.run.Found.{Found}
+use Rattle.driver.specs.declared.run.Turned.{Turned}
+
+-- the run R after u answers and w entries, its words in the log from `at` on
+abbrev pub finish : List ℕ → ℕ → ℕ → ℕ → Run → Final
+finish log at u w R =
+    record {
+      advanced = record { used = u + R .used; written = w + length (R .entries); saved = R .saved; report = R .report };
+      buffer = R .buffer;
+      log = sets log at (wordsOf (R .entries));
+    }
+
+-- an advance makes no more entries than it has places
+within-turn : (q : Request) (n : ℕ) (s : SavedCall) (b : List ℕ) →
+    ((s : SavedCall) (b l : List ℕ) → length (advanceFrom q n s b l .entries) ≤ n) →
+    (l : List ℕ) (x : Access) → length (turnOf (advanceFrom q n) q s b l x .entries) ≤ suc n
+within-turn q n s b ih l Nothing = omega arith
+within-turn q n s b ih l (Write r v) = omega (arith, ih (afterOf q s 0) b l)
+within-turn q n s b ih [] (Read r) = omega arith
+within-turn q n s b ih (a ∷ l) (Read r) = omega (arith, ih (afterOf q s a) b l)
+within-turn q n s b ih [] (Take i) = omega arith
+within-turn q n s b ih (a ∷ l) (Take i) = omega (arith, ih (afterOf q s a) (set b i (byteOf a)) l)
+
+within : (q : Request) (n : ℕ) (s : SavedCall) (b l : List ℕ) → length (advanceFrom q n s b l .entries) ≤ n
+unfolding advanceFrom
+within q zero s b l = omega arith
+within q (suc n) s b l = within-turn q n s b (within q n) l (accessOf q b s)
+
+-- so its words fit, and with nothing done before them they are the log as advance leaves it
+pub whole : (q : Request) (s : SavedCall) (b l log : List ℕ) →
+    finish log 0 0 0 (advanceFrom q (length log / 2) s b l) ≡ finalBy log (advanceFrom q (length log / 2) s b l)
+whole q s b l log =
+    let R : Run = advanceFrom q (length log / 2) s b l in
+    let fits : 0 + length (wordsOf (R .entries)) ≤ length log = omega (arith, two-each (R .entries), within q (length log / 2) s b l) in
+    rw (sets-eq (wordsOf (R .entries)) log 0 fits) (simp zero-add)
+
+more : (log : List ℕ) (at u u′ w : ℕ) (e : Entry) (k : ℕ) (R : Run) → u + k ≡ u′ + R .used →
+    finish log at u w (record { report = R .report; saved = R .saved; buffer = R .buffer; used = k; entries = e ∷ R .entries })
+    ≡ finish (set (set log at (e .code)) (at + 1) (e .value)) (at + 2) u′ (w + 1) R
+more log at u u′ w e k R m =
+    let p : at + 1 ≡ suc at = omega arith in
+    let q : at + 2 ≡ suc (suc at) = omega arith in
+    let n : w + 1 + length (R .entries) ≡ w + suc (length (R .entries)) = omega arith in
+    rw (p, q, n, m)
+
+abbrev asEnd : ℕ → Turn → Final
+asEnd w t =
+    record { advanced = record { used = t .used; written = w; saved = t .saved; report = t .report }; buffer = t .buffer; log = t .log }
+
+abbrev Steps : Request → List ℕ → SavedCall → List ℕ → ℕ → List ℕ → ℕ → ℕ → ℕ → Turn → Type 0
+Steps q l s b u log at w n t =
+    finish log at u w (advanceFrom q (suc n) s b (drop u l)) ≡
+    cond (t .going) (finish (t .log) (at + 2) (t .used) (w + 1) (advanceFrom q n (t .saved) (t .buffer) (drop (t .used) l))) (asEnd w t)
+
+module _ (q : Request) (l : List ℕ) (s : SavedCall) (b : List ℕ) (u : ℕ) (log : List ℕ) (at w n : ℕ) where
+  abbrev madeIn : Access → Turn
+  madeIn x = turnBy (q .call) (q .words) (viewOf q s) s (madeBy s b l u log at x)
+
+  -- the answer that is left, and what follows it
+  left : ltb u (length l) ≡ true → drop u l ≡ getD l u 0 ∷ drop (u + 1) l
+  left e = rw add-one (drop-cons l u 0 (ltb-true u (length l) e))
+
+  none-left : ltb u (length l) ≡ false → drop u l ≡ []
+  none-left e = drop-of-length-le l (ltb-false u (length l) e)
+
+  step : (x : Access) (t : Bool) → ltb u (length l) ≡ t → accessOf q b s ≡ x → Steps q l s b u log at w n (madeIn x)
+  unfolding advanceFrom afterOf
+  step Nothing t e x = simp (x, add-zero)
+  step (Write r v) t e x = rw x (more log at u u w (writeEntry r v) _ (advanceFrom q n (afterOf q s 0) b (drop u l)) refl)
+  step (Read r) true e x =
+      rw (e, x, left e)
+      (more log at u (u + 1) w (readEntry r (getD l u 0)) _ (advanceFrom q n (afterOf q s (getD l u 0)) b (drop (u + 1) l)) (omega arith))
+  step (Read r) false e x = simp (e, x, none-left e, add-zero)
+  step (Take i) true e x =
+      rw (e, x, left e)
+      (more log at u (u + 1) w (readEntry Rxdr (getD l u 0)) _
+      (advanceFrom q n (afterOf q s (getD l u 0)) (set b i (byteOf (getD l u 0))) (drop (u + 1) l)) (omega arith))
+  step (Take i) false e x = simp (e, x, none-left e, add-zero)
+
+  -- a turn is one access of the definition
+  pub turned : Steps q l s b u log at w n (madeIn (accessOf q b s))
+  turned = step (accessOf q b s) (ltb u (length l)) refl refl
+
+-- an access that was made, and the call after it, are a turn
+module _ (c : Call) (d : Description) (v : View) (s : SavedCall) (f : Found) (b log : List ℕ) (M : Made) (E : asMade f b log ≡ M) where
+  pub goes : f .going ≡ true → (n : SavedCall) → n ≡ afterIn c d v s (f .answer) →
+      asTurn (record { going = true; report = f .report; used = f .used; saved = n }) b log ≡ turnBy c d v s M
+  goes g n e = rw e (rw g at (ap (turnBy c d v s) E))
+
+  pub stays : f .going ≡ false →
+      asTurn (record { going = false; report = f .report; used = f .used; saved = s }) b log ≡ turnBy c d v s M
+  stays g = rw g at (ap (turnBy c d v s) E)
+
+-- The loop sees the view v of the running piece. What a turn t with the buffer b′ and the log log′ left is.
+module _ (q : Request) (l : List ℕ) (s : SavedCall) (v : View) (e : v ≡ viewOf q s) (b : List ℕ) (u : ℕ) (log : List ℕ) (at w : ℕ)
+    (t : Turned) (b′ log′ : List ℕ) (E : asTurn t b′ log′ ≡ turnIn (q .call) (q .words) v s b l u log at) where
+  steps : (n : ℕ) → Steps q l s b u log at w n (asTurn t b′ log′)
+  unfolding accessOf
+  steps n =
+      subst⁻¹ (Steps q l s b u log at w n)
+      (E ∙ ap (λ (x : View). turnIn (q .call) (q .words) x s b l u log at) e) (turned q l s b u log at w n)
+
+  one-less : (left : ℕ) → 0 < left → left ≡ suc (left - 1)
+  one-less left h = omega arith
+
+  -- an access was made: the rest is still to come
+  pub again : (left : ℕ) → 0 < left → t .going ≡ true →
+      finish log at u w (advanceFrom q left s b (drop u l))
+      ≡ finish log′ (at + 2) (t .used) (w + 1) (advanceFrom q (left - 1) (t .saved) b′ (drop (t .used) l))
+  again left h g =
+      ap (λ (m : ℕ). finish log at u w (advanceFrom q m s b (drop u l))) (one-less left h) ∙ (rw g at (steps (left - 1)))
+
+  -- none was made: nothing is
+  pub ends : (left : ℕ) → 0 < left → t .going ≡ false →
+      finish log at u w (advanceFrom q left s b (drop u l))
+      ≡ asFinal (record { used = t .used; written = w; saved = t .saved; report = t .report }) b′ log′
+  ends left h g =
+      ap (λ (m : ℕ). finish log at u w (advanceFrom q m s b (drop u l))) (one-less left h) ∙ (rw g at (steps (left - 1)))
+
+  -- and what row 13 asks still holds
+  pub kept : t .going ≡ true → Known q s → Known q (t .saved)
+  unfolding afterOf accessOf
+  kept g k =
+      let F : asTurn t b′ log′ ≡ turnIn (q .call) (q .words) (viewOf q s) s b l u log at =
+      E ∙ ap (λ (x : View). turnIn (q .call) (q .words) x s b l u log at) e in
+      let m = madeOf (q .call) (q .words) (viewOf q s) s b l u log at in
+      let goes : m .going ≡ true = sym (ap (λ (x : Turn). x .going) F) ∙ g in
+      let next : t .saved ≡ afterOf q s (m .answer) = rw goes at (ap (λ (x : Turn). x .saved) F) in
+      both (is (s .step) Ended)
+      (λ n. let x : false ≡ true = ap (λ (y : Access). madeBy s b l u log at y .going) (sym (no-access q b s n)) ∙ goes in absurd (subst⁻¹ T x tt))
+      (λ n. subst⁻¹ (Known q) next (known-after q s (m .answer) n k))
+
+-- an ended call is over, however many places there are
+pub ended : (q : Request) (n : ℕ) (s : SavedCall) (b l : List ℕ) → T (is (s .step) Ended) →
+    advanceFrom q n s b l ≡ stops (Over (s .outcome)) s b
+unfolding advanceFrom
+ended q zero s b l h = rw (is-true (is (s .step) Ended) h)
+ended q (suc n) s b l h = rw (no-access q b s h)
+
+-- with no place left
+pub full : (q : Request) (l : List ℕ) (s : SavedCall) (b : List ℕ) (u : ℕ) (log : List ℕ) (at w left : ℕ) (r : Report) →
+    r ≡ cond (is (s .step) Ended) (Over (s .outcome)) Full → left ≤ 0 →
+    finish log at u w (advanceFrom q left s b (drop u l)) ≡ asFinal (record { used = u; written = w; saved = s; report = r }) b log
+unfolding advanceFrom
+full q l s b u log at w left r e h =
+    let k : left ≡ 0 = omega arith in
+    simp (k, add-zero, e)

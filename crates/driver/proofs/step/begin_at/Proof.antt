@@ -1,0 +1,12 @@
+-- `step::begin_at` meets its contract. Assumes nothing.
+use borrow.Author.Needs.{needs}
+use Rattle.driver.proofs.step.begin_at.Statement.{statement}
+use Rattle.driver.proofs.step.begin_at.Tie as tie
+
+pub begin-at-spec : {M : Type 1} → statement M
+begin-at-spec =
+    tie.close
+    (tie.spec
+    (λ c κs. search needs)
+    (λ c κs. search needs)
+    (λ c. rw (c .begin-step .ensures, c .before .number .ensures)))

@@ -1,0 +1,11 @@
+-- `step::counted_at` meets its contract. Assumes nothing.
+use borrow.Author.Needs.{needs}
+use Rattle.driver.proofs.step.counted_at.Statement.{statement}
+use Rattle.driver.proofs.step.counted_at.Tie as tie
+
+pub counted-at-spec : {M : Type 1} → statement M
+counted-at-spec =
+    tie.close
+    (tie.spec
+    (λ c κs. search needs)
+    (λ c. rw (c .held-byte .ensures)))

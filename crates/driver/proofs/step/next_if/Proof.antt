@@ -1,0 +1,11 @@
+-- `step::next_if` meets its contract. Assumes nothing.
+use Rattle.access.proofs.Branch.{branches}
+use Rattle.driver.proofs.step.next_if.Statement.{statement}
+use Rattle.driver.proofs.step.next_if.Tie as tie
+
+pub next-if-spec : {M : Type 1} → statement M
+next-if-spec =
+    tie.close
+    (tie.spec
+    (λ c. search branches)
+    (λ c. search branches))

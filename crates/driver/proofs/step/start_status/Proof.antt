@@ -1,0 +1,12 @@
+-- `step::start_status` meets its contract. Assumes nothing.
+use borrow.Author.Needs.{needs}
+use Rattle.driver.proofs.step.start_status.Statement.{statement}
+use Rattle.driver.proofs.step.start_status.Tie as tie
+
+pub start-status-spec : {M : Type 1} → statement M
+start-status-spec =
+    tie.close
+    (tie.spec
+    (λ c κs. search needs)
+    (λ c κs. search needs)
+    (λ c. rw (c .error-or .ensures, c .before .nack-or .ensures)))

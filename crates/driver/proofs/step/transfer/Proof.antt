@@ -1,0 +1,13 @@
+-- `step::transfer` meets its contract. Assumes nothing.
+use Rattle.access.proofs.Branch.{branches}
+use borrow.Author.Needs.{needs}
+use Rattle.driver.proofs.step.transfer.Statement.{statement}
+use Rattle.driver.proofs.step.transfer.Tie as tie
+
+pub transfer-spec : {M : Type 1} → statement M
+transfer-spec =
+    tie.close
+    (tie.spec
+    (λ c κs. search needs)
+    (λ c. search branches)
+    (λ c. search branches))

@@ -1,0 +1,4 @@
+pub mod Bounds
+pub mod Next
+pub mod Turn
+pub mod Views

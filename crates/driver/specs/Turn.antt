@@ -1,0 +1,82 @@
+-- One turn of the loop of advance, over the whole lists of answers and of the log's words. Assumes nothing.
+use Prim.Native.Nat.{ℕ, _+_}
+use mathlib.Core.Bool.{Bool, true, false, cond}
+use mathlib.Core.List.{List}
+use lib.Dec.{ltb}
+use lib.ListN.{length, getD, set}
+use Rattle.registers.specs.Map.{offsetOf}
+use Rattle.registers.specs.declared.Register.the-variants.{Rxdr}
+use Rattle.calls.specs.Run.{Entry, readEntry, writeEntry, byteOf}
+use Rattle.calls.specs.Steps.{accessAt, afterIn}
+use Rattle.calls.specs.declared.Access.{Access}
+use Rattle.calls.specs.declared.Access.the-variants.{Read, Take, Write, Nothing}
+use Rattle.calls.specs.declared.Advanced.{Advanced}
+use Rattle.calls.specs.declared.Call.{Call}
+use Rattle.calls.specs.declared.Description.{Description}
+use Rattle.calls.specs.declared.Report.{Report}
+use Rattle.calls.specs.declared.Report.the-variants.{Over, Full, Waiting}
+use Rattle.calls.specs.declared.SavedCall.{SavedCall}
+use Rattle.calls.specs.declared.View.{View}
+use Rattle.driver.specs.declared.run.Found.{Found}
+use Rattle.driver.specs.declared.run.Turned.{Turned}
+
+-- nothing used, nothing written
+abbrev pub untouched : Report → SavedCall → Advanced
+untouched r s = record { used = 0; written = 0; saved = s; report = r }
+
+-- the access of a turn, with the answer u of l, the buffer b and the log from its word `at` on
+pub record Made : Type 0 where
+  pub going : Bool
+  pub report : Report
+  pub used : ℕ
+  pub answer : ℕ
+  pub buffer : List ℕ
+  pub log : List ℕ
+
+abbrev pub asMade : Found → List ℕ → List ℕ → Made
+asMade f b log = record { going = f .going; report = f .report; used = f .used; answer = f .answer; buffer = b; log = log }
+
+abbrev pub stays : Report → ℕ → List ℕ → List ℕ → Made
+stays r u b log = record { going = false; report = r; used = u; answer = 0; buffer = b; log = log }
+
+abbrev pub goes : Entry → ℕ → ℕ → List ℕ → List ℕ → ℕ → Made
+goes e u a b log at =
+    record { going = true; report = Full; used = u; answer = a; buffer = b; log = set (set log at (e .code)) (at + 1) (e .value) }
+
+abbrev pub madeBy : SavedCall → List ℕ → List ℕ → ℕ → List ℕ → ℕ → Access → Made
+madeBy s b l u log at Nothing = stays (Over (s .outcome)) u b log
+madeBy s b l u log at (Write r v) = goes (writeEntry r v) u 0 b log at
+madeBy s b l u log at (Read r) =
+    cond (ltb u (length l)) (goes (readEntry r (getD l u 0)) (u + 1) (getD l u 0) b log at) (stays Waiting u b log)
+madeBy s b l u log at (Take i) =
+    cond (ltb u (length l))
+    (goes (readEntry Rxdr (getD l u 0)) (u + 1) (getD l u 0) (set b i (byteOf (getD l u 0))) log at) (stays Waiting u b log)
+
+abbrev pub madeOf : Call → Description → View → SavedCall → List ℕ → List ℕ → ℕ → List ℕ → ℕ → Made
+madeOf c d v s b l u log at = madeBy s b l u log at (accessAt c d v b s (s .step))
+
+-- the turn: the call after its access, too
+pub record Turn : Type 0 where
+  pub going : Bool
+  pub report : Report
+  pub used : ℕ
+  pub saved : SavedCall
+  pub buffer : List ℕ
+  pub log : List ℕ
+
+abbrev pub asTurn : Turned → List ℕ → List ℕ → Turn
+asTurn t b log = record { going = t .going; report = t .report; used = t .used; saved = t .saved; buffer = b; log = log }
+
+abbrev pub turnBy : Call → Description → View → SavedCall → Made → Turn
+turnBy c d v s m =
+    record {
+      going = m .going;
+      report = m .report;
+      used = m .used;
+      saved = cond (m .going) (afterIn c d v s (m .answer)) s;
+      buffer = m .buffer;
+      log = m .log;
+    }
+
+abbrev pub turnOf : Call → Description → View → SavedCall → List ℕ → List ℕ → ℕ → List ℕ → ℕ → Turn
+turnOf c d v s b l u log at = turnBy c d v s (madeOf c d v s b l u log at)

@@ -1,0 +1,230 @@
+// The loop of advance: accesses until the call has ended, the log has no place, or a read finds no answer.
+ghost use mathlib.Core.Path.{_≡_};
+ghost use Prim.Native.Nat.{_+_, _*_, _/_, _%_, _≤_};
+ghost use lib.ListN.{length, set};
+ghost use Rattle.calls.proofs.Accepted.{Known};
+ghost use Rattle.calls.specs.Pieces.{viewOf};
+ghost use Rattle.calls.specs.Refusals.{requestOf};
+ghost use Rattle.calls.specs.Run.{advanceFrom, asFinal, finalBy};
+ghost use Rattle.registers.specs.Map.{offsetOf};
+ghost use Rattle.calls.proofs.Fit.{Fit};
+ghost use Rattle.driver.specs.Bounds.{Small};
+ghost use Rattle.driver.specs.Turn.{asMade, madeOf, asTurn, turnOf};
+use crate::step;
+use crate::view;
+use calls::Access;
+use calls::Advanced;
+use calls::Call;
+use calls::Description;
+use calls::Report;
+use calls::SavedCall;
+use calls::View;
+use registers::Register;
+
+// What a turn finds: whether there is an access to make, the report where there is none, and the answer to a read.
+pub struct Found {
+    pub going: bool,
+    pub report: Report,
+    pub used: usize,
+    pub answer: u32,
+}
+
+// How a turn comes out: with the call after its access, where there was one.
+pub struct Turned {
+    pub going: bool,
+    pub report: Report,
+    pub used: usize,
+    pub saved: SavedCall,
+}
+
+fn note(log: &mut [u32], at: usize, code: u32, value: u32)
+    requires { ⌜ at + 2 ≤ length (now log) ⌝ }
+    ensures { λ _. ⌜ now (log .exit) ≡ set (set (now (log .entry)) at code) (at + 1) value ⌝ }
+{
+    log[at] = code;
+    log[at + 1] = value;
+}
+
+fn keep(buffer: &mut [u8], at: usize, answer: u32)
+    ensures { λ _. ⌜ now (buffer .exit) ≡ set (now (buffer .entry)) at (answer % 256) ⌝ }
+{
+    if at < buffer.len() {
+        buffer[at] = (answer % 256) as u8;
+    }
+}
+
+// The first word of a write's entry.
+fn write_code(r: Register) -> u32
+    ensures { λ n. ⌜ n ≡ offsetOf r + 0x100 ⌝ }
+{
+    r.offset() + 0x100
+}
+
+// The access of a turn, in the log and in the buffer.
+fn make(
+    c: Call,
+    d: Description,
+    v: View,
+    s: SavedCall,
+    buffer: &mut [u8],
+    answers: &[u32],
+    used: usize,
+    log: &mut [u32],
+    at: usize,
+) -> Found
+    requires { ⌜ at + 2 ≤ length (now log) ⌝ }
+    ensures { λ r. ⌜ asMade r (now (buffer .exit)) (now (log .exit)) ≡ madeOf c d v s (now (buffer .entry)) (now (answers .entry)) used (now (log .entry)) at ⌝ }
+{
+    let outcome = s.outcome;
+    let x = access::access(c, d, v, buffer, s);
+    match x {
+        Access::Nothing => Found {
+            going: false,
+            report: Report::Over(outcome),
+            used: used,
+            answer: 0,
+        },
+        Access::Write(r, w) => {
+            note(log, at, write_code(r), w);
+            Found {
+                going: true,
+                report: Report::Full,
+                used: used,
+                answer: 0,
+            }
+        }
+        Access::Read(r) => {
+            if used < answers.len() {
+                let a = answers[used];
+                note(log, at, r.offset(), a);
+                Found {
+                    going: true,
+                    report: Report::Full,
+                    used: used + 1,
+                    answer: a,
+                }
+            } else {
+                Found {
+                    going: false,
+                    report: Report::Waiting,
+                    used: used,
+                    answer: 0,
+                }
+            }
+        }
+        Access::Take(i) => {
+            if used < answers.len() {
+                let a = answers[used];
+                note(log, at, Register::Rxdr.offset(), a);
+                keep(buffer, i, a);
+                Found {
+                    going: true,
+                    report: Report::Full,
+                    used: used + 1,
+                    answer: a,
+                }
+            } else {
+                Found {
+                    going: false,
+                    report: Report::Waiting,
+                    used: used,
+                    answer: 0,
+                }
+            }
+        }
+    }
+}
+
+// One access, if there is one to make.
+fn turn(
+    c: Call,
+    d: Description,
+    v: View,
+    s: SavedCall,
+    buffer: &mut [u8],
+    answers: &[u32],
+    used: usize,
+    log: &mut [u32],
+    at: usize,
+) -> Turned
+    requires { ⌜ (at + 2 ≤ length (now log)) × Small s × (v .size ≤ 65535) ⌝ }
+    ensures { λ r. ⌜ asTurn r (now (buffer .exit)) (now (log .exit)) ≡ turnOf c d v s (now (buffer .entry)) (now (answers .entry)) used (now (log .entry)) at ⌝ }
+{
+    let found = make(c, d, v, s, buffer, answers, used, log, at);
+    let report = found.report;
+    if found.going {
+        let next = step::after(c, d, v, s, found.answer);
+        Turned {
+            going: true,
+            report: report,
+            used: found.used,
+            saved: next,
+        }
+    } else {
+        Turned {
+            going: false,
+            report: report,
+            used: found.used,
+            saved: s,
+        }
+    }
+}
+
+pub fn run(
+    c: Call,
+    d: Description,
+    ops: &[u32],
+    n: u32,
+    first: View,
+    saved: SavedCall,
+    buffer: &mut [u8],
+    answers: &[u32],
+    log: &mut [u32],
+) -> Advanced
+    requires { ⌜ Fit c (now ops) n × (first ≡ viewOf (requestOf c d (now ops) n) saved) × Known (requestOf c d (now ops) n) saved ⌝ }
+    ensures { λ r. ⌜ asFinal r (now (buffer .exit)) (now (log .exit)) ≡ finalBy (now (log .entry)) (advanceFrom (requestOf c d (now (ops .entry)) n) (length (now (log .entry)) / 2) saved (now (buffer .entry)) (now (answers .entry))) ⌝ }
+{
+    let mut s = saved;
+    let mut v = first;
+    let mut used: usize = 0;
+    let mut written: usize = 0;
+    let mut at: usize = 0;
+    let mut left: usize = log.len() / 2;
+    while 0 < left {
+        let t = turn(c, d, v, s, buffer, answers, used, log, at);
+        if t.going {
+            let next = t.saved;
+            v = view::view_after(c, ops, n, v, s.piece, next.piece);
+            s = next;
+            used = t.used;
+            at += 2;
+            written += 1;
+            left -= 1;
+        } else {
+            let end = t.saved;
+            let report = t.report;
+            return Advanced {
+                used: t.used,
+                written: written,
+                saved: end,
+                report: report,
+            };
+        }
+    }
+    let outcome = s.outcome;
+    let step = s.step;
+    if step::is_ended(step) {
+        return Advanced {
+            used: used,
+            written: written,
+            saved: s,
+            report: Report::Over(outcome),
+        };
+    }
+    Advanced {
+        used: used,
+        written: written,
+        saved: s,
+        report: Report::Full,
+    }
+}
