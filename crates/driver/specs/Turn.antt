@@ -33,24 +33,27 @@ pub record Made : Type 0 where
   pub buffer : List ℕ
   pub log : List ℕ
 
+abbrev pub stayed : Report → ℕ → Found
+stayed r u = record { going = false; report = r; used = u; answer = 0 }
+
+abbrev pub went : ℕ → ℕ → Found
+went u a = record { going = true; report = Full; used = u; answer = a }
+
 abbrev pub asMade : Found → List ℕ → List ℕ → Made
 asMade f b log = record { going = f .going; report = f .report; used = f .used; answer = f .answer; buffer = b; log = log }
 
-abbrev pub stays : Report → ℕ → List ℕ → List ℕ → Made
-stays r u b log = record { going = false; report = r; used = u; answer = 0; buffer = b; log = log }
-
-abbrev pub goes : Entry → ℕ → ℕ → List ℕ → List ℕ → ℕ → Made
-goes e u a b log at =
-    record { going = true; report = Full; used = u; answer = a; buffer = b; log = set (set log at (e .code)) (at + 1) (e .value) }
+-- with an entry at `at`
+abbrev pub entered : Entry → ℕ → ℕ → List ℕ → List ℕ → ℕ → Made
+entered e u a b log at = asMade (went u a) b (set (set log at (e .code)) (at + 1) (e .value))
 
 abbrev pub madeBy : SavedCall → List ℕ → List ℕ → ℕ → List ℕ → ℕ → Access → Made
-madeBy s b l u log at Nothing = stays (Over (s .outcome)) u b log
-madeBy s b l u log at (Write r v) = goes (writeEntry r v) u 0 b log at
+madeBy s b l u log at Nothing = asMade (stayed (Over (s .outcome)) u) b log
+madeBy s b l u log at (Write r v) = entered (writeEntry r v) u 0 b log at
 madeBy s b l u log at (Read r) =
-    cond (ltb u (length l)) (goes (readEntry r (getD l u 0)) (u + 1) (getD l u 0) b log at) (stays Waiting u b log)
+    cond (ltb u (length l)) (entered (readEntry r (getD l u 0)) (u + 1) (getD l u 0) b log at) (asMade (stayed Waiting u) b log)
 madeBy s b l u log at (Take i) =
     cond (ltb u (length l))
-    (goes (readEntry Rxdr (getD l u 0)) (u + 1) (getD l u 0) (set b i (byteOf (getD l u 0))) log at) (stays Waiting u b log)
+    (entered (readEntry Rxdr (getD l u 0)) (u + 1) (getD l u 0) (set b i (byteOf (getD l u 0))) log at) (asMade (stayed Waiting u) b log)
 
 abbrev pub madeOf : Call → Description → View → SavedCall → List ℕ → List ℕ → ℕ → List ℕ → ℕ → Made
 madeOf c d v s b l u log at = madeBy s b l u log at (accessAt c d v b s (s .step))

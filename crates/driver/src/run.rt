@@ -1,6 +1,7 @@
 // The loop of advance: accesses until the call has ended, the log has no place, or a read finds no answer.
 ghost use mathlib.Core.Path.{_≡_};
 ghost use Prim.Native.Nat.{_+_, _*_, _/_, _%_, _≤_};
+ghost use lib.Dec.{ltb};
 ghost use lib.ListN.{length, set};
 ghost use Rattle.calls.proofs.Accepted.{Known};
 ghost use Rattle.calls.specs.Pieces.{viewOf};
@@ -9,7 +10,7 @@ ghost use Rattle.calls.specs.Run.{advanceFrom, asFinal, finalBy};
 ghost use Rattle.registers.specs.Map.{offsetOf};
 ghost use Rattle.calls.proofs.Fit.{Fit};
 ghost use Rattle.driver.specs.Bounds.{Small};
-ghost use Rattle.driver.specs.Turn.{asMade, madeOf, asTurn, turnOf};
+ghost use Rattle.driver.specs.Turn.{stayed, went, asMade, madeOf, asTurn, turnOf};
 use crate::step;
 use crate::view;
 use calls::Access;
@@ -60,6 +61,34 @@ fn write_code(r: Register) -> u32
     r.offset() + 0x100
 }
 
+fn stays(report: Report, used: usize) -> Found
+    ensures { λ r. ⌜ r ≡ stayed report used ⌝ }
+{
+    Found {
+        going: false,
+        report,
+        used,
+        answer: 0,
+    }
+}
+
+fn goes(used: usize, answer: u32) -> Found
+    ensures { λ r. ⌜ r ≡ went used answer ⌝ }
+{
+    Found {
+        going: true,
+        report: Report::Full,
+        used,
+        answer,
+    }
+}
+
+fn has_answer(answers: &[u32], used: usize) -> bool
+    ensures { λ r. ⌜ r ≡ ltb used (length (now (answers .entry))) ⌝ }
+{
+    used < answers.len()
+}
+
 // The access of a turn, in the log and in the buffer.
 fn make(
     c: Call,
@@ -78,59 +107,27 @@ fn make(
     let outcome = s.outcome;
     let x = access::access(c, d, v, buffer, s);
     match x {
-        Access::Nothing => Found {
-            going: false,
-            report: Report::Over(outcome),
-            used: used,
-            answer: 0,
-        },
+        Access::Nothing => stays(Report::Over(outcome), used),
         Access::Write(r, w) => {
             note(log, at, write_code(r), w);
-            Found {
-                going: true,
-                report: Report::Full,
-                used: used,
-                answer: 0,
-            }
+            goes(used, 0)
         }
         Access::Read(r) => {
-            if used < answers.len() {
+            if has_answer(answers, used) {
                 let a = answers[used];
                 note(log, at, r.offset(), a);
-                Found {
-                    going: true,
-                    report: Report::Full,
-                    used: used + 1,
-                    answer: a,
-                }
-            } else {
-                Found {
-                    going: false,
-                    report: Report::Waiting,
-                    used: used,
-                    answer: 0,
-                }
+                return goes(used + 1, a);
             }
+            stays(Report::Waiting, used)
         }
         Access::Take(i) => {
-            if used < answers.len() {
+            if has_answer(answers, used) {
                 let a = answers[used];
                 note(log, at, Register::Rxdr.offset(), a);
                 keep(buffer, i, a);
-                Found {
-                    going: true,
-                    report: Report::Full,
-                    used: used + 1,
-                    answer: a,
-                }
-            } else {
-                Found {
-                    going: false,
-                    report: Report::Waiting,
-                    used: used,
-                    answer: 0,
-                }
+                return goes(used + 1, a);
             }
+            stays(Report::Waiting, used)
         }
     }
 }

@@ -16,10 +16,16 @@ advance-spec =
     (tie.spec
     (λ c κs. search needs)
     (λ c. search needs)
-    (λ c κs. (sym (c .before .before .before .before .before .check .ensures) ∙ c .before .before .before .verdict .given .1))
+    (λ c κs. sym (c .before .before .before .before .before .check .ensures) ∙ c .before .before .before .verdict .given .1)
     (λ c. search needs)
     (λ c κs. search needs)
     (λ c. search needs)
     (λ c. search needs)
-    (λ c. via (λ (v : Verdict). finalBy (c .before .before .before .before .before .before .before .before .before .before .before .before .before .before .before .args .log .now) (runBy v (c .before .before .before .before .before .before .before .before .before .before .before .before .before .before .before .args .d) (c .before .before .before .before .before .before .before .before .before .before .before .before .before .before .before .args .ops .now) (length (c .before .before .before .before .before .before .before .before .before .before .before .before .before .before .before .args .log .now) / 2) (c .before .before .before .before .before .before .before .before .before .before .before .before .before .before .before .args .saved) (c .before .before .before .before .before .before .before .before .before .before .before .before .before .before .before .args .buffer .now) (c .before .before .before .before .before .before .before .before .before .before .before .before .before .before .before .args .answers .now))) _ _ _ _ (c .before .before .before .before .before .before .before .before .before .before .check .ensures) (c .before .before .before .before .before .before .before .before .verdict .given .1) (c .before .before .before .before .advance-call .ensures))
-    (λ c. via (λ (v : Verdict). finalBy (c .before .before .before .before .before .before .before .before .before .args .log .now) (runBy v (c .before .before .before .before .before .before .before .before .before .args .d) (c .before .before .before .before .before .before .before .before .before .args .ops .now) (length (c .before .before .before .before .before .before .before .before .before .args .log .now) / 2) (c .before .before .before .before .before .before .before .before .before .args .saved) (c .before .before .before .before .before .before .before .before .before .args .buffer .now) (c .before .before .before .before .before .before .before .before .before .args .answers .now))) _ _ _ _ (c .before .before .before .before .check .ensures) (c .before .before .verdict2 .given .1) (rw (c .stopped .ensures))))
+    (λ c.
+    let a = c .before .before .before .before .before .before .before .before .before .before .before .before .before .before .before .args in
+    via (λ (v : Verdict). finalBy (a .log .now) (runBy v (a .d) (a .ops .now) (length (a .log .now) / 2) (a .saved) (a .buffer .now) (a .answers .now)))
+    _ _ _ _ (c .before .before .before .before .before .before .before .before .before .before .check .ensures) (c .before .before .before .before .before .before .before .before .verdict .given .1) (c .before .before .before .before .advance-call .ensures))
+    (λ c.
+    let a = c .before .before .before .before .before .before .before .before .before .args in
+    via (λ (v : Verdict). finalBy (a .log .now) (runBy v (a .d) (a .ops .now) (length (a .log .now) / 2) (a .saved) (a .buffer .now) (a .answers .now)))
+    _ _ _ _ (c .before .before .before .before .check .ensures) (c .before .before .verdict2 .given .1) (rw (c .stopped .ensures))))

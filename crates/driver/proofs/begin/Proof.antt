@@ -17,9 +17,17 @@ begin-spec =
     (tie.spec
     (λ c κs. search needs)
     (λ c. search needs)
-    (λ c. omega (arith, accepted-fit _ (c .before .before .before .before .before .before .args .d) (c .before .before .before .before .before .before .args .ops .now) (length (c .before .before .before .before .before .before .args .buffer .now)) (sym (c .before .before .before .check .ensures) ∙ c .before .verdict .given .1) .size))
-    (λ c κs. (sym (c .before .before .before .check .ensures) ∙ c .before .verdict .given .1))
+    (λ c.
+    let a = c .before .before .before .before .before .before .args in
+    omega (arith, accepted-fit _ (a .d) (a .ops .now) (length (a .buffer .now)) (sym (c .before .before .before .check .ensures) ∙ c .before .verdict .given .1) .size))
+    (λ c κs. sym (c .before .before .before .check .ensures) ∙ c .before .verdict .given .1)
     (λ c. search needs)
     (λ c κs. search needs)
-    (λ c. via (λ (v : Verdict). begunBy v (c .before .before .before .before .before .before .before .args .d) (c .before .before .before .before .before .before .before .args .ops .now) (length (c .before .before .before .before .before .before .before .args .buffer .now))) _ _ _ _ (c .before .before .before .before .check .ensures) (c .before .before .verdict .given .1) (rw (c .begin-call .ensures)))
-    (λ c. via (λ (v : Verdict). begunBy v (c .before .before .before .before .before .before .before .args .d) (c .before .before .before .before .before .before .before .args .ops .now) (length (c .before .before .before .before .before .before .before .args .buffer .now))) _ _ _ _ (c .before .before .before .before .check .ensures) (c .before .before .verdict2 .given .1) (rw (c .no-call .ensures))))
+    (λ c.
+    let a = c .before .before .before .before .before .before .before .args in
+    via (λ (v : Verdict). begunBy v (a .d) (a .ops .now) (length (a .buffer .now))) _ _ _ _ (c .before .before .before .before .check .ensures) (c .before .before .verdict .given .1)
+    (rw (c .begin-call .ensures)))
+    (λ c.
+    let a = c .before .before .before .before .before .before .before .args in
+    via (λ (v : Verdict). begunBy v (a .d) (a .ops .now) (length (a .buffer .now))) _ _ _ _ (c .before .before .before .before .check .ensures) (c .before .before .verdict2 .given .1)
+    (rw (c .no-call .ensures))))

@@ -13,7 +13,12 @@ next-access-spec =
     (tie.spec
     (λ c κs. search needs)
     (λ c. search needs)
-    (λ c κs. (sym (c .before .before .before .check .ensures) ∙ c .before .verdict .given .1))
+    (λ c κs. sym (c .before .before .before .check .ensures) ∙ c .before .verdict .given .1)
     (λ c. search needs)
-    (λ c. via (λ (v : Verdict). nextBy v (c .before .before .before .before .before .before .before .args .d) (c .before .before .before .before .before .before .before .args .ops .now) (c .before .before .before .before .before .before .before .args .saved) (c .before .before .before .before .before .before .before .args .buffer .now)) _ _ _ _ (c .before .before .before .before .check .ensures) (c .before .before .verdict .given .1) (c .next-call .ensures))
-    (λ c. via (λ (v : Verdict). nextBy v (c .before .before .before .before .before .before .args .d) (c .before .before .before .before .before .before .args .ops .now) (c .before .before .before .before .before .before .args .saved) (c .before .before .before .before .before .before .args .buffer .now)) _ _ _ _ (c .before .before .before .check .ensures) (c .before .verdict2 .given .1) refl))
+    (λ c.
+    let a = c .before .before .before .before .before .before .before .args in
+    via (λ (v : Verdict). nextBy v (a .d) (a .ops .now) (a .saved) (a .buffer .now)) _ _ _ _ (c .before .before .before .before .check .ensures) (c .before .before .verdict .given .1)
+    (c .next-call .ensures))
+    (λ c.
+    let a = c .before .before .before .before .before .before .args in
+    via (λ (v : Verdict). nextBy v (a .d) (a .ops .now) (a .saved) (a .buffer .now)) _ _ _ _ (c .before .before .before .check .ensures) (c .before .verdict2 .given .1) refl))

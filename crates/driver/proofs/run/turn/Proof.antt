@@ -13,7 +13,15 @@ turn-spec =
     (λ c κs. search needs)
     (λ c. search needs)
     (λ c. search needs)
-    (λ c. goes (c .before .before .before .before .before .before .before .before .before .before .before .before .args .c) (c .before .before .before .before .before .before .before .before .before .before .before .before .args .d) (c .before .before .before .before .before .before .before .before .before .before .before .before .args .v) (c .before .before .before .before .before .before .before .before .before .before .before .before .args .s) (c .before .before .before .before .before .before .make .result) _ _ (madeOf (c .before .before .before .before .before .before .before .before .before .before .before .before .args .c) (c .before .before .before .before .before .before .before .before .before .before .before .before .args .d) (c .before .before .before .before .before .before .before .before .before .before .before .before .args .v) (c .before .before .before .before .before .before .before .before .before .before .before .before .args .s) (c .before .before .before .before .before .before .before .before .before .before .before .before .args .buffer .now) (c .before .before .before .before .before .before .before .before .before .before .before .before .args .answers .now) (c .before .before .before .before .before .before .before .before .before .before .before .before .args .used) (c .before .before .before .before .before .before .before .before .before .before .before .before .args .log .now) (c .before .before .before .before .before .before .before .before .before .before .before .before .args .at)) (c .before .before .before .before .before .before .make .ensures) (c .before .if1 .taken) _ (c .after .ensures))
+    (λ c.
+    let a = c .before .before .before .before .before .before .before .before .before .before .before .before .args in
+    goes (a .c) (a .d) (a .v) (a .s) (c .before .before .before .before .before .before .make .result) _ _
+    (madeOf (a .c) (a .d) (a .v) (a .s) (a .buffer .now) (a .answers .now) (a .used) (a .log .now) (a .at))
+    (c .before .before .before .before .before .before .make .ensures) (c .before .if1 .taken) _ (c .after .ensures))
     (λ c. search needs)
     (λ c. search needs)
-    (λ c. stays (c .before .before .before .before .before .before .before .before .before .before .before .args .c) (c .before .before .before .before .before .before .before .before .before .before .before .args .d) (c .before .before .before .before .before .before .before .before .before .before .before .args .v) (c .before .before .before .before .before .before .before .before .before .before .before .args .s) (c .before .before .before .before .before .make .result) _ _ (madeOf (c .before .before .before .before .before .before .before .before .before .before .before .args .c) (c .before .before .before .before .before .before .before .before .before .before .before .args .d) (c .before .before .before .before .before .before .before .before .before .before .before .args .v) (c .before .before .before .before .before .before .before .before .before .before .before .args .s) (c .before .before .before .before .before .before .before .before .before .before .before .args .buffer .now) (c .before .before .before .before .before .before .before .before .before .before .before .args .answers .now) (c .before .before .before .before .before .before .before .before .before .before .before .args .used) (c .before .before .before .before .before .before .before .before .before .before .before .args .log .now) (c .before .before .before .before .before .before .before .before .before .before .before .args .at)) (c .before .before .before .before .before .make .ensures) (c .if1 .left)))
+    (λ c.
+    let a = c .before .before .before .before .before .before .before .before .before .before .before .args in
+    stays (a .c) (a .d) (a .v) (a .s) (c .before .before .before .before .before .make .result) _ _
+    (madeOf (a .c) (a .d) (a .v) (a .s) (a .buffer .now) (a .answers .now) (a .used) (a .log .now) (a .at))
+    (c .before .before .before .before .before .make .ensures) (c .if1 .left)))
