@@ -18,7 +18,7 @@ use Rattle.calls.specs.declared.SavedCall.{SavedCall}
 use Rattle.calls.specs.declared.Step.the-variants.{Ended}
 use Rattle.driver.proofs.Pieces.{inside, few-pieces}
 use Rattle.calls.proofs.Fit.{Fit}
-use Rattle.driver.specs.Bounds.{Small}
+use Rattle.steps.specs.Bounds.{Small}
 use Rattle.driver.specs.Views.{atByte}
 
 module _ (c : Call) (d : Description) (ops : List ℕ) (n : ℕ) (s : SavedCall) where

@@ -1,5 +1,3 @@
-pub mod Unlike
-pub mod Small
 pub mod Pieces
 pub mod Accepts
 pub mod Loop

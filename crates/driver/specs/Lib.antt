@@ -1,4 +1,3 @@
-pub mod Bounds
 pub mod Next
 pub mod Turn
 pub mod Views

@@ -9,9 +9,6 @@ ghost use Rattle.calls.specs.Pieces.{piecesFor, pieceAt};
 ghost use Rattle.calls.specs.Refusals.{requestOf, modifyGroup, groupOf, hasIn, accepts};
 ghost use Rattle.calls.proofs.Fit.{Fit};
 ghost use Rattle.driver.specs.Views.{atByte};
-use crate::step::is_byte;
-use crate::step::is_ended;
-use crate::view::byte_there;
 use crate::view::count;
 use crate::view::moves;
 use crate::view::size_at;
@@ -29,6 +26,9 @@ use calls::Description;
 use calls::Modify;
 use calls::SavedCall;
 use calls::Step;
+use steps::byte_there;
+use steps::is_byte;
+use steps::is_ended;
 
 // Which steps a call takes, by their groups. The parts of a condition are cheap, so `&` and `|` work all of them out.
 fn either(c: Call, m: u32, n: u32) -> bool

@@ -23,7 +23,6 @@ use calls::Verdict;
 
 mod accept;
 mod run;
-mod step;
 mod view;
 
 // What a refused begin hands out; no advance takes it.
@@ -46,7 +45,7 @@ fn begin_call(c: Call, d: Description, ops: &[u32], n: u32) -> SavedCall
     requires { ⌜ checkOf d (now ops) n ≡ Accepted c ⌝ }
     ensures { λ r. ⌜ r ≡ beginOf (requestOf c d (now (ops .entry)) n) ⌝ }
 {
-    step::begin_at(c, view::has_pieces(c, ops, n))
+    steps::begin_at(c, view::has_pieces(c, ops, n))
 }
 
 // Begins a call. The operation list and the buffer are looked at, not kept: they are lent to each advance again.
@@ -95,7 +94,7 @@ fn advance_call(
         return stopped(Report::Refused(Refusal::SavedCall), saved);
     }
     let step = saved.step;
-    if step::is_ended(step) {
+    if steps::is_ended(step) {
         let outcome = saved.outcome;
         return stopped(Report::Over(outcome), saved);
     }
@@ -131,7 +130,7 @@ fn next_call(c: Call, d: Description, ops: &[u32], saved: SavedCall, buffer: &[u
         return Next::Refused(Refusal::SavedCall);
     }
     let step = saved.step;
-    if step::is_ended(step) {
+    if steps::is_ended(step) {
         return Next::Over;
     }
     let v = view::view_at(c, ops, n, saved.piece);

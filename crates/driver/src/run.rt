@@ -9,9 +9,8 @@ ghost use Rattle.calls.specs.Refusals.{requestOf};
 ghost use Rattle.calls.specs.Run.{advanceFrom, asFinal, finalBy};
 ghost use Rattle.registers.specs.Map.{offsetOf};
 ghost use Rattle.calls.proofs.Fit.{Fit};
-ghost use Rattle.driver.specs.Bounds.{Small};
+ghost use Rattle.steps.specs.Bounds.{Small};
 ghost use Rattle.driver.specs.Turn.{stayed, went, asMade, madeOf, asTurn, turnOf};
-use crate::step;
 use crate::view;
 use calls::Access;
 use calls::Advanced;
@@ -150,7 +149,7 @@ fn turn(
     let found = make(c, d, v, s, buffer, answers, used, log, at);
     let report = found.report;
     if found.going {
-        let next = step::after(c, d, v, s, found.answer);
+        let next = steps::after(c, d, v, s, found.answer);
         Turned {
             going: true,
             report: report,
@@ -210,7 +209,7 @@ pub fn run(
     }
     let outcome = s.outcome;
     let step = s.step;
-    if step::is_ended(step) {
+    if steps::is_ended(step) {
         return Advanced {
             used: used,
             written: written,

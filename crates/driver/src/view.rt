@@ -210,16 +210,3 @@ pub fn view_after(c: Call, ops: &[u32], n: u32, v: View, i: u32, j: u32) -> View
     }
     view_from(c, ops, n, j, start_at(c, ops, n, j))
 }
-
-// A byte is there: one of the piece's or, past the last that a target puts out, a filling zero.
-pub fn byte_there(c: Call, byte: u32, size: u32, last: bool) -> bool
-    ensures { λ r. ⌜ r ≡ (ltb byte size || (transmits c && last)) ⌝ }
-{
-    (byte < size) | (is_transmitter(c) & last)
-}
-
-pub fn is_there(c: Call, v: View, s: SavedCall) -> bool
-    ensures { λ r. ⌜ r ≡ there c v s ⌝ }
-{
-    byte_there(c, s.byte, v.size, v.last)
-}
