@@ -1,6 +1,7 @@
 //! Compares the Rattle library with the Rust driver.
 
 mod answer;
+mod calls;
 mod packing;
 mod pairs;
 mod random;
@@ -12,7 +13,9 @@ use std::{env, process::ExitCode};
 
 const USAGE: &str = "usage: compare timing [--pairs N] [--seed S]
        compare packing [--seed S]
-       compare store-timing --inputs FILE --answers FILE [--check]";
+       compare calls --program FILE [--runs N] [--seed S]
+       compare store-timing --inputs FILE --answers FILE [--check]
+       compare store-calls --inputs FILE --answers FILE [--check]";
 
 fn main() -> ExitCode {
     match command(Arguments(env::args().skip(1).collect())) {
@@ -40,22 +43,35 @@ fn command(mut arguments: Arguments) -> Result<bool, String> {
             arguments.none_left()?;
             Ok(packing::compare(seed))
         }
-        "store-timing" => {
-            let inputs = arguments.value("--inputs")?.ok_or("--inputs is missing")?;
-            let answers = arguments
-                .value("--answers")?
-                .ok_or("--answers is missing")?;
-            let check = arguments.flag("--check");
+        "calls" => {
+            let program = arguments
+                .value("--program")?
+                .ok_or("--program is missing")?;
+            let runs = arguments.number("--runs", 5_000)?;
+            let seed = arguments.number("--seed", 1)?;
             arguments.none_left()?;
-            let result = if check {
-                store::check(&inputs, &answers)
-            } else {
-                store::write(&inputs, &answers).map(|()| true)
-            };
-            result.map_err(|error| error.to_string())
+            calls::compare(runs, seed, &program).map_err(|error| error.to_string())
         }
+        "store-timing" => store(arguments, store::timing()),
+        "store-calls" => store(arguments, calls::sample::texts()),
         _ => Err(format!("there is no command {command}")),
     }
+}
+
+/// Writes a sample's two files, or checks them.
+fn store(mut arguments: Arguments, texts: store::Texts) -> Result<bool, String> {
+    let inputs = arguments.value("--inputs")?.ok_or("--inputs is missing")?;
+    let answers = arguments
+        .value("--answers")?
+        .ok_or("--answers is missing")?;
+    let check = arguments.flag("--check");
+    arguments.none_left()?;
+    let result = if check {
+        store::check(texts, &inputs, &answers)
+    } else {
+        store::write(texts, &inputs, &answers).map(|()| true)
+    };
+    result.map_err(|error| error.to_string())
 }
 
 /// The words of the command line that were not taken yet.

@@ -24,4 +24,14 @@ impl Random {
         let length = self.up_to(most);
         self.word().checked_shr(32 - length).unwrap_or(0)
     }
+
+    /// One of these.
+    pub fn pick<T: Copy>(&mut self, of: &[T]) -> T {
+        of[self.up_to(of.len() as u32 - 1) as usize]
+    }
+
+    /// Numbers apart from those that follow here.
+    pub fn split(&mut self) -> Self {
+        Random(u64::from(self.word()) << 32 | u64::from(self.word()))
+    }
 }

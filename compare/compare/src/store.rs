@@ -1,4 +1,5 @@
-//! `compare store-timing`: a fixed sample of the driver's timing, as two files.
+//! `compare store-timing` and `compare store-calls`: fixed samples, each as a file of inputs and one
+//! of the driver's answers.
 
 use std::{fmt::Write, fs, io};
 
@@ -10,7 +11,9 @@ const HOW: &str = "# CLOCK FREQUENCY; made in compare/ by: \
                    cargo run --release --offline -- store-timing --inputs FILE --answers FILE";
 
 /// The text of the inputs and that of the answers.
-fn texts() -> (String, String) {
+pub type Texts = (String, String);
+
+pub fn timing() -> Texts {
     let mut inputs = format!("{HOW}\n");
     let mut answers = String::new();
     for pair in pairs::sample() {
@@ -22,19 +25,17 @@ fn texts() -> (String, String) {
     (inputs, answers)
 }
 
-pub fn write(inputs: &str, answers: &str) -> io::Result<()> {
-    let texts = texts();
+pub fn write(texts: Texts, inputs: &str, answers: &str) -> io::Result<()> {
     fs::write(inputs, texts.0)?;
     fs::write(answers, texts.1)
 }
 
 /// True if both files are as `write` would make them.
-pub fn check(inputs: &str, answers: &str) -> io::Result<bool> {
-    let texts = texts();
+pub fn check(texts: Texts, inputs: &str, answers: &str) -> io::Result<bool> {
     let mut same = true;
     for (file, text) in [(inputs, texts.0), (answers, texts.1)] {
         if fs::read_to_string(file)? != text {
-            println!("store-timing: {file} differs");
+            println!("{file} is not what would be stored");
             same = false;
         }
     }
@@ -45,7 +46,7 @@ pub fn check(inputs: &str, answers: &str) -> io::Result<bool> {
 mod tests {
     #[test]
     fn the_files_have_a_line_for_each_pair() {
-        let (inputs, answers) = super::texts();
+        let (inputs, answers) = super::timing();
         let inputs: Vec<&str> = inputs.lines().collect();
         let answers: Vec<&str> = answers.lines().collect();
         assert!(inputs[0].starts_with('#'));

@@ -105,3 +105,17 @@ pub fn run_over(
         Left::Panicked(panic) => (Outcome::Panicked(panic), 0),
     })
 }
+
+/// Performs a call with answers that are chosen by the offset of the register read, until it ends
+/// or none is chosen, and gives the answers.
+pub fn explore(
+    description: &Description,
+    buffer: &mut [u8],
+    choose: impl FnMut(u32) -> Option<u32> + 'static,
+) -> Vec<u32> {
+    let mut registers = RegisterBlock::default();
+    registers.answer_by(choose);
+    run_over(&registers, description, buffer);
+    let reads = registers.log().iter().filter(|access| access[0] < 0x100);
+    reads.map(|access| access[1]).collect()
+}

@@ -1,15 +1,18 @@
 //! The oracle: the I2C driver of stm32h5xx-hal, its files unchanged, over stand-in registers.
 //!
-//! [`run`] performs one of document 01's calls over a list of register answers; [`calc_timing`],
+//! [`run`] performs one of document 01's calls over a list of register answers, [`Asked`] says
+//! which calls document 01 refuses; [`calc_timing`],
 //! [`pack`] and [`unpack`] are the driver's timing. This file is the rest of the HAL, as far as
 //! the driver leans on it.
 
 mod calls;
 mod panics;
+mod refusals;
 mod timing;
 
-pub use calls::{run, run_over, Configuration, Description, Outcome, Run};
+pub use calls::{explore, run, run_over, Configuration, Description, Outcome, Run};
 pub use panics::{Panic, PanicKind};
+pub use refusals::Asked;
 pub use stm32h5::i2c1::{Access, RegisterBlock};
 pub use timing::{calc_timing, pack, unpack, Fields};
 

@@ -1,30 +1,40 @@
 //! The nine I2C registers, with the fields that the driver names, placed as in RM0492.
 
 use crate::{FieldReader, FieldWriter, NoAnswer, Reg, Register, R, W, WRITE};
-use core::cell::{Cell, UnsafeCell};
+use core::cell::{Cell, RefCell, UnsafeCell};
 use std::panic::resume_unwind;
 
 /// An entry of the log: the register's offset, plus `WRITE` for a write, and the value.
 pub type Access = [u32; 2];
 
-/// Registers that answer reads from a list and log every access.
+/// Registers that answer reads from a list, and after it by a choice, and log every access.
 #[derive(Default)]
 pub struct RegisterBlock {
     answers: Vec<u32>,
+    choose: RefCell<Option<Choose>>,
     used: Cell<usize>,
     log: UnsafeCell<Vec<Access>>,
 }
+
+/// Chooses an answer by the offset of the register read, or none.
+type Choose = Box<dyn FnMut(u32) -> Option<u32>>;
 
 impl RegisterBlock {
     /// Starts anew with these answers and an empty log. What was allocated before is used again.
     pub fn load(&mut self, answers: &[u32]) {
         self.answers.clear();
         self.answers.extend_from_slice(answers);
+        *self.choose.get_mut() = None;
         self.used.set(0);
         let log = self.log.get_mut();
         log.clear();
         // Few writes stand between two reads, so that no access allocates.
         log.reserve(2 * answers.len() + 8);
+    }
+
+    /// Has the reads for which the list has no answer answered by choice.
+    pub fn answer_by(&mut self, choose: impl FnMut(u32) -> Option<u32> + 'static) {
+        self.choose = RefCell::new(Some(Box::new(choose)));
     }
 
     /// How many answers were taken.
@@ -42,12 +52,20 @@ impl RegisterBlock {
 
     pub(crate) fn read(&self, offset: u32) -> u32 {
         let used = self.used.get();
-        let Some(&answer) = self.answers.get(used) else {
-            resume_unwind(Box::new(NoAnswer))
+        let answer = match self.answers.get(used) {
+            Some(&answer) => answer,
+            None => self.choice(offset),
         };
         self.used.set(used + 1);
         self.record([offset, answer]);
         answer
+    }
+
+    #[cold]
+    fn choice(&self, offset: u32) -> u32 {
+        let mut choose = self.choose.borrow_mut();
+        let choice = choose.as_mut().and_then(|choose| choose(offset));
+        choice.unwrap_or_else(|| resume_unwind(Box::new(NoAnswer)))
     }
 
     pub(crate) fn write(&self, offset: u32, value: u32) {

@@ -1,0 +1,214 @@
+//! Random calls: every number, every limit from both sides, and answers that take most of them far.
+
+use oracle::{explore, Asked};
+
+use super::answers::Answers;
+use super::case::Case;
+use crate::random::Random;
+
+/// The listed calls.
+pub const LISTED: [u32; 21] = [
+    1, 2, 3, 4, 5, 6, 7, 8, 9, 10, 11, 12, 13, 14, 15, 24, 25, 26, 27, 28, 29,
+];
+
+/// Calls that move bytes, which have the most ways to go.
+const TRANSFERS: [u32; 10] = [7, 7, 9, 10, 11, 12, 25, 26, 27, 28];
+
+const UNLISTED: [u32; 8] = [0, 16, 23, 30, 31, 32, 0x107, u32::MAX];
+
+const READ: u32 = 0x1_0000;
+
+/// A call of which the answers are as the driver asks for them, and perhaps a few more.
+pub fn case(random: &mut Random) -> Case {
+    let (asked, buffer) = described(random);
+    let mut answers = Vec::new();
+    if asked.refusal(buffer.len()).is_none() {
+        let mut choices = Answers::new(asked.call, buffer.len(), random.split());
+        let choose = move |offset| choices.choose(offset);
+        answers = explore(&asked.description(), &mut buffer.clone(), choose);
+    }
+    if random.up_to(1) == 0 {
+        answers.extend((0..random.up_to(3)).map(|_| random.word()));
+    }
+    Case {
+        asked,
+        buffer,
+        answers,
+    }
+}
+
+/// A call and its buffer.
+fn described(random: &mut Random) -> (Asked, Vec<u8>) {
+    let mut asked = Asked {
+        call: number(random),
+        ..Default::default()
+    };
+    if random.up_to(1) == 0 {
+        fill_with_anything(&mut asked, random);
+    }
+    let mut length = own_words(&mut asked, random);
+    if random.up_to(7) == 0 {
+        length = spoil(&mut asked, length, random);
+    }
+    let mut buffer = vec![0; length];
+    if length < 2_000 && random.up_to(3) != 0 {
+        buffer.fill_with(|| random.word() as u8);
+    }
+    (asked, buffer)
+}
+
+fn number(random: &mut Random) -> u32 {
+    match random.up_to(31) {
+        0 => random.pick(&UNLISTED),
+        1..=12 => random.pick(&LISTED),
+        _ => random.pick(&TRANSFERS),
+    }
+}
+
+/// Words that the call may not look at.
+fn fill_with_anything(asked: &mut Asked, random: &mut Random) {
+    asked.address = random.of_length(32);
+    asked.ten_bit = random.up_to(1) == 0;
+    asked.listen = random.of_length(32);
+    asked.timingr = random.word();
+    asked.own_address = random.of_length(32);
+    asked.own_ten_bit = random.up_to(1) == 0;
+    asked.secondary_address = Some(random.of_length(31));
+    asked.mask = Some(random.of_length(31));
+    asked.operations = (0..random.up_to(5)).map(|_| random.of_length(32)).collect();
+}
+
+/// The words that the call does look at, all within their limits, and the length of its buffer.
+fn own_words(asked: &mut Asked, random: &mut Random) -> usize {
+    match asked.call {
+        1..=3 => {
+            asked.timingr = random.word();
+            asked.configured = random.up_to(1) == 0;
+            if asked.call != 1 || asked.configured {
+                configure(asked, random);
+            }
+        }
+        4 | 5 => asked.listen = random.up_to(2),
+        7 => {
+            asked.ten_bit = random.up_to(1) == 0;
+            asked.address = address(asked.ten_bit, random);
+            asked.operations = operations(random);
+            return asked.operations.iter().map(|it| it & 0xFFFF).sum::<u32>() as usize;
+        }
+        9..=12 => return length(random).max(1),
+        25..=28 => return length(random),
+        _ => {}
+    }
+    [0, random.up_to(3)][random.up_to(1) as usize] as usize
+}
+
+fn address(ten_bit: bool, random: &mut Random) -> u32 {
+    let most = if ten_bit { 1_023 } else { 127 };
+    match random.up_to(3) {
+        0 => random.pick(&[0, 1, most - 1, most]),
+        _ => random.up_to(most),
+    }
+}
+
+fn configure(asked: &mut Asked, random: &mut Random) {
+    asked.own_ten_bit = random.up_to(1) == 0;
+    asked.own_address = address(asked.own_ten_bit, random);
+    asked.secondary_address = (random.up_to(3) != 0).then(|| address(false, random));
+    asked.mask = (random.up_to(3) != 0).then(|| random.up_to(6));
+}
+
+fn operations(random: &mut Random) -> Vec<u32> {
+    let count = match random.up_to(15) {
+        0 => 0,
+        1 => random.pick(&[16, 63, 64]),
+        2 => random.up_to(64),
+        _ => 1 + random.up_to(4),
+    };
+    let long = random.up_to(7) == 0;
+    let mut direction = random.pick(&[0, READ]);
+    let mut operation = || {
+        if random.up_to(1) == 0 {
+            direction ^= READ;
+        }
+        direction
+            | match random.up_to(7) {
+                0 if long => random.pick(&[254, 255]),
+                1 => 0,
+                2 if long => random.up_to(255),
+                _ => random.up_to(6),
+            }
+    };
+    (0..count).map(|_| operation()).collect()
+}
+
+/// The length of a target's buffer.
+fn length(random: &mut Random) -> usize {
+    let edges = [
+        0, 1, 2, 254, 255, 256, 257, 509, 510, 511, 512, 600, 765, 766,
+    ];
+    match random.up_to(15) {
+        0..=5 => random.pick(&edges),
+        6 => random.up_to(600) as usize,
+        7 if random.up_to(31) == 0 => 65_535,
+        _ => random.up_to(9) as usize,
+    }
+}
+
+/// Puts one of the call's words beyond its limit; gives the length of the buffer.
+fn spoil(asked: &mut Asked, length: usize, random: &mut Random) -> usize {
+    let wide = |most: u32, random: &mut Random| match random.up_to(2) {
+        0 => most + 1,
+        1 => random.pick(&[1 << 16, 1 << 31, u32::MAX - 1]),
+        _ => most + 1 + random.of_length(16),
+    };
+    let most = |ten_bit| if ten_bit { 1_023 } else { 127 };
+    match asked.call {
+        1..=3 => match random.up_to(2) {
+            0 => asked.own_address = wide(most(asked.own_ten_bit), random),
+            1 => asked.secondary_address = Some(wide(127, random)),
+            _ => asked.mask = Some(wide(6, random)),
+        },
+        4 | 5 => asked.listen = wide(2, random),
+        7 => return spoil_transaction(asked, length, random),
+        9..=12 => return random.pick(&[0, 0, 0, 65_536]),
+        _ if random.up_to(15) == 0 => return 65_536,
+        _ => {}
+    }
+    length
+}
+
+fn spoil_transaction(asked: &mut Asked, length: usize, random: &mut Random) -> usize {
+    match random.up_to(4) {
+        0 => asked.address = [128, 1_024][usize::from(asked.ten_bit)] + random.of_length(12),
+        1 => return length + 1,
+        2 => return length.saturating_sub(1),
+        3 => {
+            let long = random.pick(&[256, 257, 511, 1_000]);
+            asked.operations.push(long | random.pick(&[0, READ]));
+            return length + long as usize;
+        }
+        _ => match random.up_to(1) {
+            0 => asked.operations.resize(65 + random.up_to(10) as usize, 0),
+            _ => asked.operations.push(1 << (17 + random.up_to(14))),
+        },
+    }
+    length
+}
+
+#[cfg(test)]
+mod tests {
+    use super::*;
+
+    /// The program says so where a text has too much, but no call of ours should.
+    #[test]
+    fn calls_fit_the_program() {
+        let mut random = Random::new(1);
+        for _ in 0..2_000 {
+            let case = case(&mut random);
+            assert!(case.asked.operations.len() <= 80);
+            assert!(case.buffer.len() <= 65_536);
+            assert!(case.answers.len() <= 8_192);
+            assert!(case.text("").len() <= super::super::TEXT);
+        }
+    }
+}

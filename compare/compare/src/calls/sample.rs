@@ -1,0 +1,610 @@
+//! The fixed sample of calls that is stored: each listed call in several ways, each outcome, each
+//! refusal that a begin gives, and the lengths around a block.
+
+use oracle::Asked;
+
+use super::case::Case;
+use super::chip::*;
+use super::expected;
+
+const HOW: &str =
+    "# Described calls, as crates/replay/src/text.rt has them; made in compare/ by:\n\
+                   # cargo run --release --offline -- store-calls --inputs FILE --answers FILE\n";
+
+/// An operation that reads.
+const READ: u32 = 0x1_0000;
+
+/// The text of the calls and that of the expected answers.
+pub fn texts() -> (String, String) {
+    let calls = calls();
+    let mut inputs = HOW.to_string();
+    let mut answers = String::new();
+    for (comment, case) in &calls {
+        inputs.push('\n');
+        inputs.push_str(&case.text(comment));
+        answers.push_str(&expected::of(case).text);
+    }
+    answers.push_str(&format!("calls {}\n", calls.len()));
+    (inputs, answers)
+}
+
+type Described = (&'static str, Case);
+
+fn calls() -> Vec<Described> {
+    [
+        set_up(),
+        transactions(),
+        events(),
+        receptions(),
+        transmissions(),
+        blocks(),
+        refusals(),
+    ]
+    .concat()
+}
+
+fn call(number: u32) -> Case {
+    Case {
+        asked: Asked {
+            call: number,
+            ..Default::default()
+        },
+        ..Default::default()
+    }
+}
+
+fn transaction(operations: &[u32]) -> Case {
+    let mut case = call(7);
+    case.asked.address = 0x50;
+    case.asked.operations = operations.to_vec();
+    case
+}
+
+impl Case {
+    fn asking(mut self, change: impl FnOnce(&mut Asked)) -> Self {
+        change(&mut self.asked);
+        self
+    }
+
+    fn ten_bit(self, address: u32) -> Self {
+        self.asking(|asked| {
+            asked.ten_bit = true;
+            asked.address = address;
+        })
+    }
+
+    fn listening(self, kind: u32) -> Self {
+        self.asking(|asked| asked.listen = kind)
+    }
+
+    fn timed(self, timingr: u32) -> Self {
+        self.asking(|asked| asked.timingr = timingr)
+    }
+
+    fn owning(self, address: u32, secondary: Option<u32>, mask: Option<u32>) -> Self {
+        self.asking(|asked| {
+            asked.configured = true;
+            asked.own_address = address;
+            asked.secondary_address = secondary;
+            asked.mask = mask;
+        })
+    }
+
+    fn owning_ten_bit(self, address: u32, mask: Option<u32>) -> Self {
+        let case = self.owning(address, None, mask);
+        case.asking(|asked| asked.own_ten_bit = true)
+    }
+
+    fn bytes(mut self, bytes: &[u8]) -> Self {
+        self.buffer = bytes.to_vec();
+        self
+    }
+
+    fn zeros(self, count: usize) -> Self {
+        self.bytes(&vec![0; count])
+    }
+
+    fn answers(mut self, answers: &[u32]) -> Self {
+        self.answers.extend(answers);
+        self
+    }
+
+    /// Bytes that come in, each with its RXNE.
+    fn receives(mut self, count: u32) -> Self {
+        self.answers.extend((0..count).flat_map(|i| [RXNE, i]));
+        self
+    }
+
+    /// So many bytes are asked for.
+    fn asks_for(mut self, count: usize) -> Self {
+        self.answers.extend(vec![TXIS | TXE; count]);
+        self
+    }
+
+    /// A NACK that finds nothing to flush.
+    fn nacks(self) -> Self {
+        self.answers(&[NACKF | TXE, TXE, TXE])
+    }
+}
+
+/// Bytes that can be told from their neighbours.
+fn counted(count: usize) -> Vec<u8> {
+    (0..count).map(|i| (i % 251) as u8 + 1).collect()
+}
+
+fn set_up() -> Vec<Described> {
+    let timing = 0x60FB_1C39;
+    vec![
+        ("a controller alone", call(1).timed(timing).answers(&[1])),
+        (
+            "a controller that is a target too; bits 24 to 27 of the timing are ignored",
+            call(1)
+                .timed(!0)
+                .owning(0x42, Some(0x21), Some(2))
+                .answers(&[!0]),
+        ),
+        (
+            "without a configuration its words are not looked at",
+            call(1)
+                .owning(4_000, Some(999), Some(99))
+                .asking(|asked| asked.configured = false),
+        ),
+        (
+            "a target: neither SCLL nor SCLH",
+            call(2)
+                .timed(!0)
+                .owning(0x42, Some(0x21), None)
+                .answers(&[1, !1]),
+        ),
+        (
+            "a target of ten bits, left before it is enabled",
+            call(2)
+                .timed(timing)
+                .owning_ten_bit(0x3FF, None)
+                .answers(&[0x1_1001]),
+        ),
+        ("own address alone", call(3).owning(0x7F, None, None)),
+        (
+            "own address of ten bits; the mask has no use",
+            call(3).owning_ten_bit(0x2A5, Some(6)),
+        ),
+        (
+            "secondary address with a mask",
+            call(3).owning(0x42, Some(0x7F), Some(6)),
+        ),
+        ("general call on", call(4).listening(0).answers(&[1])),
+        ("primary address on", call(4).listening(1).answers(&[0x84])),
+        (
+            "secondary address on",
+            call(4).listening(2).answers(&[0x342]),
+        ),
+        ("general call off", call(5).listening(0).answers(&[!0])),
+        ("primary address off", call(5).listening(1).answers(&[!0])),
+        (
+            "secondary address off",
+            call(5).listening(2).answers(&[0x8342]),
+        ),
+        (
+            "reset, with two polls",
+            call(6).answers(&[0x1_0001, 1, 1, 1, 1, 0, 0x1_0000]),
+        ),
+        ("reset, left in its polls", call(6).answers(&[1, 1, 1, 1])),
+        ("acknowledge", call(14).answers(&[!0])),
+        ("acknowledge, without an answer", call(14)),
+        (
+            "not acknowledge",
+            call(15).answers(&[0x0101_0000, 0x0101_8000]),
+        ),
+        ("not acknowledge, left half way", call(15).answers(&[0])),
+    ]
+}
+
+fn transactions() -> Vec<Described> {
+    vec![
+        (
+            "two bytes out, as document 01 prints it",
+            transaction(&[2])
+                .bytes(&[0x12, 0x34])
+                .answers(&[1, 0x0202_00A0, 3, 3, 0x21]),
+        ),
+        ("no operation", transaction(&[]).answers(&[1])),
+        (
+            "a byte out and two in, at an address of ten bits, with a repeated start",
+            transaction(&[1, READ | 2])
+                .ten_bit(0x2A5)
+                .bytes(&[0x12, 0, 0])
+                .answers(&[TXE, START, TXE, 0, TXE, TXE | TXIS, TXE, TXE | TC])
+                .answers(&[TXE, 0, TXE | NACKF, RXNE | STOPF | ADDR, !0x54, RXNE, 0xCD])
+                .answers(&[TXE, STOPF]),
+        ),
+        (
+            "two operations of the same direction: a reload",
+            transaction(&[READ | 1, READ])
+                .zeros(1)
+                .answers(&[TXE, 0, RXNE, 0x11, TC, TCR, TXE, 0, STOPF]),
+        ),
+        (
+            "a byte is not acknowledged, one is flushed, and the stop follows",
+            transaction(&[2]).bytes(&[0x12, 0x34]).answers(&[
+                TXE,
+                0,
+                TXIS,
+                NACKF | TXIS | STOPF,
+                TXIS,
+                0,
+                TXE,
+                TXE | STOPF,
+            ]),
+        ),
+        (
+            "the address is not acknowledged",
+            transaction(&[1])
+                .bytes(&[0x12])
+                .answers(&[NACKF, TXE, TXE, STOPF]),
+        ),
+        (
+            "a bus error goes before all else, and a stop follows",
+            transaction(&[1])
+                .bytes(&[0x12])
+                .answers(&[BERR | ARLO | NACKF, 0, STOPF]),
+        ),
+        (
+            "a newer error takes the place of the first",
+            transaction(&[1])
+                .bytes(&[0x12])
+                .answers(&[BERR, ARLO | STOPF]),
+        ),
+        (
+            "stopped while reading",
+            transaction(&[READ | 2])
+                .bytes(&[1, 2])
+                .answers(&[TXE, 0, RXNE, 0x77, STOPF, STOPF]),
+        ),
+        (
+            "left in the middle of a read",
+            transaction(&[READ | 3])
+                .bytes(&[1, 2, 3])
+                .answers(&[TXE, 0, RXNE, 0x71, RXNE, 0x72, RXNE]),
+        ),
+        (
+            "255 bytes out",
+            transaction(&[255])
+                .bytes(&counted(255))
+                .answers(&[TXE, 0])
+                .asks_for(255)
+                .answers(&[STOPF]),
+        ),
+        (
+            "64 operations without a byte",
+            transaction(&[0; 64])
+                .answers(&[TXE, 0, TCR].repeat(63))
+                .answers(&[TXE, 0, STOPF]),
+        ),
+    ]
+}
+
+const MATCH: u32 = addcode(0x50) | ADDR | TXE;
+
+/// A ten-bit header.
+const HEADER: u32 = addcode(0x7A) | ADDR | TXE;
+
+/// The answers of a manual event after its status word.
+const MANUAL: [u32; 2] = [0x1_0001, 0x01FF_8000];
+const MANUAL_WRITE: [u32; 4] = [0x1_0001, 0x01FF_8000, 1, 0x8000];
+
+fn events() -> Vec<Described> {
+    vec![
+        (
+            "the controller reads",
+            call(8).answers(&[TXE, MATCH | DIR | STOPF]),
+        ),
+        (
+            "the controller writes to a target of ten bits; a byte is flushed",
+            call(8).answers(&[HEADER & !TXE, 0x86A5]),
+        ),
+        ("a stop", call(8).answers(&[TXE, STOPF])),
+        (
+            "a bus error beside a match",
+            call(8).answers(&[BERR | MATCH]),
+        ),
+        ("nothing yet", call(8).answers(&[TXE, 0, TXE])),
+        (
+            "a stop is awaited, and comes",
+            call(13).answers(&[TXE, STOPF]),
+        ),
+        (
+            "a stop is awaited, and the controller reads",
+            call(13).answers(&[MATCH | DIR]),
+        ),
+        (
+            "a stop is awaited, and the controller writes",
+            call(13).answers(&[MATCH]),
+        ),
+        (
+            "manual: the controller reads; a byte is flushed",
+            call(24).answers(&[MATCH & !TXE | DIR]).answers(&MANUAL),
+        ),
+        (
+            "manual: the controller writes to a target of ten bits",
+            call(24)
+                .answers(&[HEADER])
+                .answers(&MANUAL)
+                .answers(&[0x6A5, 1, 0x8000]),
+        ),
+        ("manual: a stop", call(24).answers(&[STOPF])),
+        (
+            "manual: a stop is awaited, and comes",
+            call(29).answers(&[STOPF]),
+        ),
+        (
+            "manual: a stop is awaited; the event is finished before it is the wrong one",
+            call(29).answers(&[MATCH | DIR]).answers(&MANUAL),
+        ),
+        (
+            "manual: the same of a write",
+            call(29).answers(&[MATCH]).answers(&MANUAL_WRITE),
+        ),
+    ]
+}
+
+fn receptions() -> Vec<Described> {
+    vec![
+        (
+            "two bytes in; a NACK is not looked at",
+            call(9)
+                .zeros(2)
+                .answers(&[RXNE, 0x171, TXE | NACKF, RXNE | STOPF, 0x72, 0x1_0000]),
+        ),
+        (
+            "a new address after one of two bytes",
+            call(9).bytes(&[9, 5]).answers(&[RXNE, 0x71, ADDR, 0]),
+        ),
+        ("arbitration is lost", call(9).bytes(&[5]).answers(&[ARLO])),
+        (
+            "256 bytes in, in one go",
+            call(9).zeros(256).receives(256).answers(&[0]),
+        ),
+        (
+            "a byte in after a write event",
+            call(11).zeros(1).answers(&[MATCH, RXNE, 0x71, 0]),
+        ),
+        (
+            "a read event instead",
+            call(11).bytes(&[9]).answers(&[MATCH | DIR]),
+        ),
+        ("a stop instead", call(11).bytes(&[9]).answers(&[STOPF])),
+    ]
+}
+
+fn transmissions() -> Vec<Described> {
+    vec![
+        (
+            "a byte out, filled with zeros, and a byte flushed",
+            call(10).bytes(&[0x12]).answers(&[
+                TXE | TXIS,
+                TXE,
+                TXIS,
+                TXIS,
+                NACKF | TXIS,
+                TXIS,
+                TXE,
+            ]),
+        ),
+        ("a NACK at once", call(10).bytes(&[0x12]).nacks()),
+        (
+            "a bus error",
+            call(10).bytes(&[0x12]).answers(&[TXIS, BERR]),
+        ),
+        (
+            "two bytes out after a read event, of which one is counted",
+            call(12)
+                .bytes(&[0x12, 0x34])
+                .answers(&[MATCH & !TXE | DIR, TXIS, TXIS, NACKF, 0, 0]),
+        ),
+        (
+            "a write event instead",
+            call(12).bytes(&[9]).answers(&[MATCH]),
+        ),
+        ("a stop instead", call(12).bytes(&[9]).answers(&[STOPF])),
+    ]
+}
+
+fn blocks() -> Vec<Described> {
+    let second = |case: Case| case.answers(&[0x00FF_0000]);
+    vec![
+        ("manual: no byte in", call(25).answers(&[1])),
+        (
+            "manual: 255 bytes in",
+            call(25).zeros(255).answers(&[0x0100_0000]).receives(255),
+        ),
+        (
+            "manual: 256 bytes in",
+            second(call(25).zeros(256).answers(&[0]).receives(255)).receives(1),
+        ),
+        (
+            "manual: stopped after 510 of 511 bytes",
+            second(second(call(25).zeros(511).answers(&[0]).receives(255)).receives(255))
+                .answers(&[STOPF]),
+        ),
+        ("manual: no byte out", call(26)),
+        (
+            "manual: 255 bytes out, then two zeros",
+            call(26)
+                .bytes(&counted(255))
+                .answers(&[0])
+                .asks_for(257)
+                .nacks(),
+        ),
+        (
+            "manual: 256 bytes out, the last not counted",
+            second(call(26).bytes(&counted(256)).answers(&[0]).asks_for(255))
+                .asks_for(1)
+                .nacks(),
+        ),
+        (
+            "manual: 511 bytes out and a zero",
+            second(second(call(26).bytes(&counted(511)).answers(&[0]).asks_for(255)).asks_for(255))
+                .asks_for(2)
+                .nacks(),
+        ),
+        (
+            "manual: a NACK after five bytes of the first of two blocks",
+            call(26)
+                .bytes(&counted(256))
+                .answers(&[0])
+                .asks_for(5)
+                .nacks(),
+        ),
+        (
+            "manual: a NACK at byte 0 of the second of three blocks, where the Rust panics: \
+             document 01 counts the first",
+            second(call(26).bytes(&counted(511)).answers(&[0]).asks_for(255)).nacks(),
+        ),
+        (
+            "manual: a write event without a byte to take",
+            call(27).answers(&[MATCH]).answers(&MANUAL_WRITE),
+        ),
+        (
+            "manual: a write event and two bytes",
+            call(27)
+                .zeros(2)
+                .answers(&[MATCH])
+                .answers(&MANUAL_WRITE)
+                .answers(&[0x0100_0000, RXNE, 0x71, RXNE, 0x72]),
+        ),
+        (
+            "manual: a read event instead",
+            call(27).zeros(2).answers(&[MATCH | DIR]).answers(&MANUAL),
+        ),
+        (
+            "manual: a read event and two bytes",
+            call(28)
+                .bytes(&[0x12, 0x34])
+                .answers(&[MATCH | DIR])
+                .answers(&MANUAL)
+                .answers(&[0])
+                .asks_for(3)
+                .nacks(),
+        ),
+        (
+            "manual: a write event instead",
+            call(28)
+                .bytes(&[0x12])
+                .answers(&[MATCH])
+                .answers(&MANUAL_WRITE),
+        ),
+        (
+            "manual: a stop instead",
+            call(28).bytes(&[0x12]).answers(&[STOPF]),
+        ),
+    ]
+}
+
+fn refusals() -> Vec<Described> {
+    let list = |operations: &[u32], bytes| transaction(operations).zeros(bytes);
+    vec![
+        ("no such call: 0", call(0).answers(&[1])),
+        ("no such call: the manual form of 14", call(30)),
+        ("no such listen kind", call(4).listening(3)),
+        ("no such listen kind", call(5).listening(!0)),
+        (
+            "an address of more than seven bits, before a long operation",
+            list(&[256], 256).asking(|asked| asked.address = 128),
+        ),
+        (
+            "an address of more than ten bits",
+            list(&[], 0).ten_bit(1_024),
+        ),
+        (
+            "an own address of more than seven bits",
+            call(1).owning(128, None, None),
+        ),
+        (
+            "an own address of more than ten bits",
+            call(3).owning_ten_bit(1_024, None),
+        ),
+        (
+            "a secondary address of more than seven bits",
+            call(2).owning(0, Some(128), None),
+        ),
+        (
+            "a mask of more than six bits",
+            call(3).owning(0, None, Some(7)),
+        ),
+        ("65 operations", list(&[0; 65], 0)),
+        (
+            "an operation with a bit that means nothing",
+            list(&[0x2_0000], 0),
+        ),
+        ("a buffer that is a byte too long", list(&[1], 2)),
+        (
+            "a buffer that is a byte too short, before a long operation",
+            list(&[256], 255),
+        ),
+        ("a long operation", list(&[1, READ | 256], 257)),
+        ("nothing to take in", call(9)),
+        ("nothing to put out", call(10)),
+        (
+            "nothing to take in after an event",
+            call(11).answers(&[MATCH]),
+        ),
+        (
+            "nothing to put out after an event",
+            call(12).answers(&[MATCH | DIR]),
+        ),
+    ]
+}
+
+#[cfg(test)]
+mod tests {
+    use super::super::generate::LISTED;
+    use super::*;
+    use std::collections::BTreeSet;
+
+    #[test]
+    fn every_call_and_every_end_is_there() {
+        let calls = calls();
+        let accepted = |number| {
+            let its = calls.iter().filter(|(_, case)| case.asked.call == number);
+            its.filter(|(_, case)| case.asked.refusal(case.buffer.len()).is_none())
+                .count()
+        };
+        for number in LISTED {
+            assert!(accepted(number) >= 2, "call {number}");
+        }
+        let ends: BTreeSet<&str> = calls
+            .iter()
+            .map(|(_, case)| expected::of(case).word)
+            .collect();
+        assert_eq!(ends.len(), 12);
+        let refusals: BTreeSet<u32> = calls
+            .iter()
+            .filter_map(|(_, case)| case.asked.refusal(case.buffer.len()))
+            .collect();
+        assert!(refusals.into_iter().eq(8..=12));
+        for length in [0, 255, 256, 511] {
+            let of_length = |(_, case): &&Described| case.buffer.len() == length;
+            assert!(calls.iter().filter(of_length).count() >= 2);
+        }
+    }
+
+    /// Answers that nothing reads would hide a mistake in a list.
+    #[test]
+    fn answers_are_used() {
+        for (comment, case) in calls() {
+            let expected = expected::of(&case);
+            let used = format!(" {} ", case.answers.len());
+            let line = expected.text.lines().next().unwrap();
+            let unread = line.ends_with(" 0 0");
+            assert!(unread || line.contains(&used), "{comment}: {line}");
+        }
+    }
+
+    #[test]
+    fn the_texts_fit_the_program() {
+        let (inputs, answers) = texts();
+        assert!(inputs.len() < super::super::TEXT);
+        assert!(inputs.lines().all(|line| line.len() <= 120));
+        assert!(answers.ends_with(&format!("calls {}\n", calls().len())));
+    }
+}

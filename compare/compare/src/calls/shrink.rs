@@ -1,0 +1,169 @@
+//! Finding a small call that still shows a difference.
+
+use std::io;
+
+use oracle::Asked;
+
+use super::case::Case;
+
+/// How many calls are tried at most.
+const TRIES: usize = 3_000;
+
+/// The smallest call, of those tried, that differs.
+pub fn smallest(case: &Case, differs: impl Fn(&Case) -> io::Result<bool>) -> io::Result<Case> {
+    let mut smallest = case.clone();
+    let mut tries = 0;
+    loop {
+        let before = smallest.clone();
+        let mut place = 0;
+        while let Some(change) = changes(&smallest).get(place) {
+            let mut candidate = smallest.clone();
+            change.make(&mut candidate);
+            if candidate == smallest {
+                place += 1;
+                continue;
+            }
+            tries += 1;
+            if tries > TRIES {
+                return Ok(smallest);
+            }
+            if differs(&candidate)? {
+                smallest = candidate;
+            } else {
+                place += 1;
+            }
+        }
+        if smallest == before {
+            return Ok(smallest);
+        }
+    }
+}
+
+/// A way to make a call smaller.
+enum Change {
+    CutAnswers(usize),
+    CutBytes(usize),
+    ClearBytes,
+    ClearList,
+    ClearWord(usize),
+    RemoveOperation(usize),
+    ShortenOperation(usize),
+    RemoveAnswers(usize, usize),
+    MaskAnswer(usize, u32),
+}
+
+/// Puts a word of a description back to its start.
+type Clear = fn(&mut Asked);
+
+const WORDS: [Clear; 9] = [
+    |asked| asked.address = 0,
+    |asked| asked.ten_bit = false,
+    |asked| asked.listen = 0,
+    |asked| asked.timingr = 0,
+    |asked| asked.configured = false,
+    |asked| asked.own_address = 0,
+    |asked| asked.own_ten_bit = false,
+    |asked| asked.secondary_address = None,
+    |asked| asked.mask = None,
+];
+
+/// What may be tried, that with much effect first.
+fn changes(case: &Case) -> Vec<Change> {
+    let answers = case.answers.len();
+    let bytes = case.buffer.len();
+    let mut changes = vec![Change::ClearBytes, Change::ClearList];
+    changes.extend((0..WORDS.len()).map(Change::ClearWord));
+    let less = |all: usize| [all / 2, all * 3 / 4, all.saturating_sub(1)];
+    changes.extend(less(answers).map(Change::CutAnswers));
+    changes.extend([0, 1].map(Change::CutBytes));
+    changes.extend(less(bytes).map(Change::CutBytes));
+    for place in 0..case.asked.operations.len() {
+        changes.push(Change::RemoveOperation(place));
+        changes.push(Change::ShortenOperation(place));
+    }
+    for count in [64, 16, 4, 1] {
+        let places = (0..(answers + 1).saturating_sub(count)).step_by(count);
+        changes.extend(places.map(|place| Change::RemoveAnswers(place, count)));
+    }
+    for place in 0..answers {
+        changes.push(Change::MaskAnswer(place, 0));
+        changes.push(Change::MaskAnswer(place, 0x3FF));
+        changes.extend((0..10).map(|bit| Change::MaskAnswer(place, !(1 << bit))));
+    }
+    changes
+}
+
+impl Change {
+    fn make(&self, case: &mut Case) {
+        match *self {
+            Change::CutAnswers(kept) => case.answers.truncate(kept),
+            Change::CutBytes(kept) => case.buffer.truncate(kept),
+            Change::ClearBytes => case.buffer.fill(0),
+            Change::ClearList => case.asked.operations.clear(),
+            Change::ClearWord(word) => WORDS[word](&mut case.asked),
+            Change::RemoveOperation(place) => remove_operation(case, place),
+            Change::ShortenOperation(place) => shorten_operation(case, place),
+            Change::RemoveAnswers(place, count) => {
+                case.answers.drain(place..place + count);
+            }
+            Change::MaskAnswer(place, mask) => case.answers[place] &= mask,
+        }
+    }
+}
+
+/// Takes an operation out, with its bytes.
+fn remove_operation(case: &mut Case, place: usize) {
+    let (start, length) = bytes_of(case, place);
+    case.asked.operations.remove(place);
+    let end = (start + length).min(case.buffer.len());
+    case.buffer.drain(start.min(end)..end);
+}
+
+/// Takes half of an operation's bytes out.
+fn shorten_operation(case: &mut Case, place: usize) {
+    let (start, length) = bytes_of(case, place);
+    case.asked.operations[place] -= length.div_ceil(2) as u32;
+    let end = (start + length).min(case.buffer.len());
+    let start = (start + length / 2).min(end);
+    case.buffer.drain(start..end);
+}
+
+fn bytes_of(case: &Case, place: usize) -> (usize, usize) {
+    let length = |word: &u32| (word & 0xFFFF) as usize;
+    let operations = &case.asked.operations;
+    let start = operations[..place].iter().map(length).sum();
+    (start, length(&operations[place]))
+}
+
+#[cfg(test)]
+mod tests {
+    use super::*;
+
+    #[test]
+    fn what_does_not_matter_goes() {
+        let case = Case {
+            asked: Asked {
+                call: 7,
+                address: 9,
+                operations: vec![3, 0x1_0004, 2],
+                ..Default::default()
+            },
+            buffer: vec![1, 2, 3, 0, 0, 0, 0, 4, 5],
+            answers: vec![1, 2, 3, 0xFFFF_FFFF, 5],
+        };
+        let small = smallest(&case, |case| {
+            let reads = case.asked.operations.iter().any(|word| word >> 16 == 1);
+            Ok(reads && case.answers.iter().any(|answer| answer & 8 != 0))
+        });
+        let expected = Case {
+            asked: Asked {
+                call: 7,
+                operations: vec![0x1_0000],
+                ..Default::default()
+            },
+            buffer: vec![],
+            answers: vec![8],
+        };
+        assert_eq!(small.unwrap(), expected);
+    }
+}

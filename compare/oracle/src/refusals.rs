@@ -1,0 +1,174 @@
+//! Document 01's refusals of a call, read from its table alone: the driver has no such checks.
+
+use crate::{Configuration, Description};
+
+/// A call as it may be asked for, right or wrong.
+#[derive(Clone, Debug, Default, PartialEq, Eq)]
+pub struct Asked {
+    pub call: u32,
+    pub address: u32,
+    pub ten_bit: bool,
+    pub operations: Vec<u32>,
+    pub listen: u32,
+    pub timingr: u32,
+    /// Whether call 1 has a configuration; 2 and 3 always have.
+    pub configured: bool,
+    pub own_address: u32,
+    pub own_ten_bit: bool,
+    pub secondary_address: Option<u32>,
+    pub mask: Option<u32>,
+}
+
+impl Asked {
+    /// The number of the first row that fits, where a buffer of this length is lent. Words that are
+    /// not the call's own are of no account.
+    pub fn refusal(&self, length: usize) -> Option<u32> {
+        if !self.is_listed() {
+            Some(12)
+        } else if self.is_address_wide() {
+            Some(8)
+        } else if self.call == 7 && self.is_list_wrong(length) {
+            Some(10)
+        } else if self.call == 7 && self.lengths().any(|length| length > 255) {
+            Some(9)
+        } else if length > 65_535 || length == 0 && matches!(self.call, 9..=12) {
+            Some(11)
+        } else {
+            None
+        }
+    }
+
+    fn is_listed(&self) -> bool {
+        match self.call {
+            4 | 5 => self.listen <= 2,
+            1..=15 | 24..=29 => true,
+            _ => false,
+        }
+    }
+
+    fn is_address_wide(&self) -> bool {
+        let wide = |ten_bit, address| address > if ten_bit { 1_023 } else { 127 };
+        let configuration_wide = wide(self.own_ten_bit, self.own_address)
+            || self.secondary_address.is_some_and(|it| wide(false, it))
+            || self.mask.is_some_and(|mask| mask > 6);
+        match self.call {
+            7 => wide(self.ten_bit, self.address),
+            1..=3 => self.is_configured() && configuration_wide,
+            _ => false,
+        }
+    }
+
+    fn is_list_wrong(&self, length: usize) -> bool {
+        self.operations.len() > 64
+            || self.operations.iter().any(|word| word >> 17 != 0)
+            || self.lengths().sum::<usize>() != length
+    }
+
+    fn lengths(&self) -> impl Iterator<Item = usize> + '_ {
+        self.operations.iter().map(|word| (word & 0xFFFF) as usize)
+    }
+
+    fn is_configured(&self) -> bool {
+        self.call != 1 || self.configured
+    }
+
+    /// The call in the driver's types. Only for one that is not refused: other words may be cut.
+    pub fn description(&self) -> Description<'_> {
+        let configuration = Configuration {
+            own_address: self.own_address as u16,
+            ten_bit: self.own_ten_bit,
+            secondary_address: self.secondary_address.map(|it| it as u8),
+            mask: self.mask.map(|it| it as u8),
+        };
+        Description {
+            call: self.call,
+            address: self.address as u16,
+            ten_bit: self.ten_bit,
+            operations: &self.operations,
+            listen: self.listen,
+            timingr: self.timingr,
+            configuration: self.is_configured().then_some(configuration),
+        }
+    }
+}
+
+#[cfg(test)]
+mod tests {
+    use super::*;
+
+    fn call(call: u32) -> Asked {
+        Asked {
+            call,
+            ..Default::default()
+        }
+    }
+
+    fn transaction(address: u32, ten_bit: bool, operations: &[u32]) -> Asked {
+        Asked {
+            address,
+            ten_bit,
+            operations: operations.to_vec(),
+            ..call(7)
+        }
+    }
+
+    #[test]
+    fn the_listed_calls() {
+        let listed: Vec<u32> = (0..100).filter(|&it| call(it).is_listed()).collect();
+        assert_eq!(listed, (1..=15).chain(24..=29).collect::<Vec<u32>>());
+        let listen = |number, listen| Asked {
+            listen,
+            ..call(number)
+        };
+        assert_eq!(listen(4, 2).refusal(0), None);
+        assert_eq!(listen(5, 3).refusal(0), Some(12));
+        assert_eq!(listen(6, 3).refusal(0), None);
+    }
+
+    #[test]
+    fn rows_in_their_order() {
+        assert_eq!(transaction(127, false, &[]).refusal(0), None);
+        assert_eq!(transaction(128, false, &[256]).refusal(0), Some(8));
+        assert_eq!(transaction(1_023, true, &[]).refusal(0), None);
+        assert_eq!(transaction(1_024, true, &[]).refusal(0), Some(8));
+        assert_eq!(transaction(0, false, &[0; 64]).refusal(0), None);
+        assert_eq!(transaction(0, false, &[0; 65]).refusal(0), Some(10));
+        assert_eq!(transaction(0, false, &[0x2_0000]).refusal(0), Some(10));
+        assert_eq!(transaction(0, false, &[256]).refusal(255), Some(10));
+        assert_eq!(transaction(0, false, &[256]).refusal(256), Some(9));
+        assert_eq!(transaction(0, false, &[0x1_00FF, 1]).refusal(256), None);
+    }
+
+    #[test]
+    fn configurations() {
+        let own = |number, own_address, own_ten_bit| Asked {
+            own_address,
+            own_ten_bit,
+            ..call(number)
+        };
+        assert_eq!(own(1, 128, false).refusal(0), None);
+        assert_eq!(own(2, 128, false).refusal(0), Some(8));
+        assert_eq!(own(3, 1_023, true).refusal(0), None);
+        let masked = |secondary_address, mask| Asked {
+            secondary_address,
+            mask,
+            ..call(3)
+        };
+        assert_eq!(masked(Some(127), Some(6)).refusal(0), None);
+        assert_eq!(masked(Some(128), None).refusal(0), Some(8));
+        assert_eq!(masked(None, Some(7)).refusal(0), Some(8));
+    }
+
+    #[test]
+    fn buffers() {
+        for number in 1..30 {
+            let expected = matches!(number, 9..=12).then_some(11);
+            if call(number).is_listed() {
+                assert_eq!(call(number).refusal(0), expected);
+                let most = if number == 7 { Some(10) } else { Some(11) };
+                assert_eq!(call(number).refusal(65_536), most);
+            }
+        }
+        assert_eq!(call(25).refusal(65_535), None);
+    }
+}
