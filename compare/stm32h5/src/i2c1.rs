@@ -330,6 +330,19 @@ mod tests {
     }
 
     #[test]
+    fn reads_after_the_list_are_answered_by_choice() {
+        let mut block = RegisterBlock::default();
+        block.load(&[7]);
+        block.answer_by(|offset| (offset == 0x18).then_some(9));
+        block.isr().read();
+        block.isr().read();
+        let stopped = catch_unwind(AssertUnwindSafe(|| block.cr1().read()));
+        assert!(stopped.is_err_and(|left| left.is::<NoAnswer>()));
+        assert_eq!(block.used(), 2);
+        assert_eq!(block.log(), [[0x18, 7], [0x18, 9]]);
+    }
+
+    #[test]
     fn a_read_without_an_answer_stops_and_leaves_no_entry() {
         let mut block = RegisterBlock::default();
         block.load(&[7]);

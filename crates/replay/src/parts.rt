@@ -14,19 +14,18 @@ pub fn place(entries: usize, len: usize) -> usize
     if entries > len / 2 { len } else { entries * 2 }
 }
 
-// The end of `size` words from `from` on, or of what there is.
-pub fn end(from: usize, size: usize, len: usize) -> usize
-    requires { ⌜ from ≤ len ⌝ }
-    ensures { λ r. ⌜ (from ≤ r) × (r ≤ len) ⌝ }
+pub fn least(a: usize, b: usize) -> usize
+    ensures { λ r. ⌜ r ≤ b ⌝ }
 {
-    if size > len - from { len } else { from + size }
+    if a < b { a } else { b }
 }
 
+// So many words from `from` on, or what there is.
 pub fn words(words: &[u32], from: usize, size: usize) -> &[u32] {
     if from > words.len() {
         return &words[0..0];
     }
-    let to = end(from, size, words.len());
+    let to = from + least(size, words.len() - from);
     &words[from..to]
 }
 

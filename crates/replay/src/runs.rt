@@ -213,7 +213,7 @@ fn piece(
     let left = parts::words(answers, run.used, answers.len());
     let lent = lend(cut, next, left.len());
     let from = parts::place(run.entries, log.len());
-    let to = parts::end(from, lent.words, log.len());
+    let to = from + parts::least(lent.words, log.len() - from);
     advance(
         d,
         ops,

@@ -19,7 +19,8 @@ impl<'a> Program<'a> {
         let mut child = Command::new(self.path)
             .stdin(Stdio::piped())
             .stdout(Stdio::piped())
-            .spawn()?;
+            .spawn()
+            .map_err(|error| io::Error::other(format!("{}: {error}", self.path)))?;
         let mut stdin = child.stdin.take().expect("it is piped");
         let output = thread::scope(|scope| {
             // The program reads it all before it prints, but may end before.
