@@ -161,7 +161,7 @@ fn turn(
             going: false,
             report: report,
             used: found.used,
-            saved: s,
+            saved: s, // a poll goes on where it stands
         }
     }
 }
