@@ -3,11 +3,11 @@
 use Prim.Native.Nat.{ℕ, _≤_, max}
 use native.Mathlib.Omega.{arith}
 use mathlib.Core.Path.{_≡_}
-use mathlib.Core.Bool.{Bool, not, _&&_, _||_}
+use mathlib.Core.Bool.{Bool, _&&_, _||_}
 use mathlib.Core.List.{List}
-use lib.Dec.{T, eqb, ltb}
+use lib.Dec.{eqb, ltb}
 use lib.ListN.{length}
-use Rattle.calls.proofs.Accepted.{Known, known}
+use Rattle.calls.proofs.Accepted.{Known}
 use Rattle.calls.specs.Calls.{numberOf}
 use Rattle.calls.specs.Pieces.{piecesFor, pieceAt, viewOf}
 use Rattle.calls.specs.Refusals.{requestOf, groupOf, hasIn, accepts}
@@ -35,7 +35,3 @@ module _ (c : Call) (d : Description) (ops : List ℕ) (n : ℕ) (s : SavedCall)
   pub known-small : Fit c ops n → Known (requestOf c d ops n) s →
       Small s × (viewOf (requestOf c d ops n) s .size ≤ 65535)
   known-small f k = omega (arith, k .piece, k .byte, few-pieces c ops n f, inside c ops n f (s .piece), f .size)
-
-  pub accepts-small : Fit c ops n → T (accepts (requestOf c d ops n) s) → T (not (is (s .step) Ended)) →
-      Small s × (viewOf (requestOf c d ops n) s .size ≤ 65535)
-  accepts-small f h e = known-small f (known (requestOf c d ops n) s h e)
