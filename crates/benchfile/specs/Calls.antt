@@ -1,0 +1,108 @@
+-- A call of a bench file: its number, its argument and its head words, and what they describe (document 01, "Bench").
+-- Assumes nothing.
+use Prim.Native.Nat.{ℕ, _+_, _-_, _%_}
+use mathlib.Core.Bool.{Bool, true, false, cond, not, _&&_, _||_}
+use mathlib.Core.List.{List, [], _∷_, _++_, map}
+use lib.Dec.{eqb, leb, ltb}
+use lib.ListN.{length, getD, take, drop, replicate}
+use Rattle.calls.specs.Pieces.{pieceOf}
+use Rattle.calls.specs.Refusals.{anyOf}
+use Rattle.calls.specs.declared.Description.{Description}
+use Rattle.calls.specs.declared.TargetConfig.{TargetConfig}
+
+-- 24 to 29 are read like 8 to 13
+unfoldable pub plain : ℕ → ℕ
+plain n = cond (leb 24 n && leb n 29) (n - 16) n
+
+-- ---- The argument: address and mode of 7, listen kind of 4 and 5, buffer length of 9 and 11; else 0.
+unfoldable pub hasArgument : ℕ → Bool
+hasArgument n = eqb n 4 || (eqb n 5 || (eqb n 9 || eqb n 11))
+
+unfoldable pub argumentWrong : ℕ → ℕ → Bool
+argumentWrong n a = cond (eqb n 7) (ltb 131071 a) (not (hasArgument n) && not (eqb a 0))
+
+-- ---- The head.
+-- a word that is no byte
+abbrev pub anyWide : List ℕ → Bool
+anyWide = anyOf (ltb 255)
+
+-- the bytes that words hold
+abbrev pub bytesIn : List ℕ → List ℕ
+bytesIn = map (λ (w : ℕ). w % 256)
+
+-- the bytes that the write operations of a list have
+abbrev pub writeBytes : List ℕ → ℕ
+writeBytes [] = 0
+writeBytes (o ∷ ops) = cond (pieceOf o .reads) 0 (pieceOf o .size) + writeBytes ops
+
+-- the words of 7's head after the count k: k operations, then a word per write byte
+unfoldable pub listWrong : ℕ → List ℕ → Bool
+listWrong k ws = ltb (length ws) k || (not (eqb (length (drop k ws)) (writeBytes (take k ws))) || anyWide (drop k ws))
+
+unfoldable pub transactionWrong : List ℕ → Bool
+transactionWrong head = eqb (length head) 0 || listWrong (getD head 0 0) (drop 1 head)
+
+-- so many words, the mode of a configuration at place i not above 1
+unfoldable pub configWrong : ℕ → ℕ → List ℕ → Bool
+configWrong size i head = not (eqb (length head) size) || ltb 1 (getD head i 0)
+
+-- 1 has a TIMINGR word, then none or four configuration words
+unfoldable pub headWrong : ℕ → List ℕ → Bool
+headWrong n head =
+    cond (eqb n 7) (transactionWrong head)
+    (cond (eqb n 10 || eqb n 12) (anyWide head)
+    (cond (eqb n 1) (not (eqb (length head) 1) && configWrong 5 2 head)
+    (cond (eqb n 2) (configWrong 5 2 head)
+    (cond (eqb n 3) (configWrong 4 1 head)
+    (not (eqb (length head) 0))))))
+
+unfoldable pub callWrong : ℕ → ℕ → List ℕ → Bool
+callWrong n a head = argumentWrong (plain n) a || headWrong (plain n) head
+
+-- ---- The description. A call looks only at the words that belong to it. Own address, mode, secondary address and mask stand
+-- after the TIMINGR word, which 3 does not have.
+abbrev pub configIn : List ℕ → TargetConfig
+configIn ws = record { own = getD ws 0 0; secondary = getD ws 2 0; mask = getD ws 3 0; ten = eqb (getD ws 1 0) 1 }
+
+abbrev pub configFrom : ℕ → ℕ
+configFrom n = cond (eqb n 3) 0 1
+
+unfoldable pub descriptionOf : ℕ → ℕ → List ℕ → Description
+descriptionOf n a head =
+    record {
+      call = n;
+      address = a % 65536;
+      listen = a;
+      timing = record { 0 = getD head 0 0 };
+      config = configIn (drop (configFrom n) head);
+      ten = leb 65536 a;
+      configured = eqb (length head) 5;
+    }
+
+-- ---- The operation list, for 7 only, and the buffer.
+abbrev pub listIn : List ℕ → List ℕ
+listIn head = take (getD head 0 0) (drop 1 head)
+
+abbrev pub afterList : List ℕ → List ℕ
+afterList head = drop (getD head 0 0) (drop 1 head)
+
+unfoldable pub operationsOf : ℕ → List ℕ → List ℕ
+operationsOf n head = cond (eqb n 7) (listIn head) []
+
+-- the operations' bytes in order, a write's from the list, a read's zeros
+abbrev pub bytesOf : List ℕ → List ℕ → List ℕ
+bytesOf [] bytes = []
+bytesOf (o ∷ ops) bytes =
+    let size : ℕ = pieceOf o .size in
+    cond (pieceOf o .reads) (replicate size 0 ++ bytesOf ops bytes) (take size bytes ++ bytesOf ops (drop size bytes))
+
+-- before it is cut
+unfoldable pub wholeBuffer : ℕ → ℕ → List ℕ → List ℕ
+wholeBuffer n a head =
+    cond (eqb n 7) (bytesOf (listIn head) (bytesIn (afterList head)))
+    (cond (eqb n 9 || eqb n 11) (replicate a 0)
+    (cond (eqb n 10 || eqb n 12) (bytesIn head) []))
+
+-- the buffer that is lent
+abbrev pub bufferOf : ℕ → ℕ → List ℕ → List ℕ
+bufferOf n a head = take 65536 (wholeBuffer (plain n) a head)

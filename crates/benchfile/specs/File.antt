@@ -1,0 +1,43 @@
+-- A bench file: a table of contents, then the bodies of its calls, head before answers (document 01, "Bench"). Assumes nothing.
+use Prim.Native.Nat.{ℕ, zero, suc, _+_, _*_, _/_, _%_}
+use mathlib.Core.Bool.{Bool, not, _||_}
+use mathlib.Core.List.{List, [], _∷_}
+use lib.Dec.{eqb, ltb}
+use lib.ListN.{length, getD, take, drop}
+use Rattle.benchfile.specs.Calls.{callWrong}
+
+-- little-endian words
+abbrev pub wordOf : ℕ → ℕ → ℕ → ℕ → ℕ
+wordOf a b c d = a + 256 * b + 65536 * c + 16777216 * d
+
+-- the first n
+abbrev pub wordsFrom : ℕ → List ℕ → List ℕ
+wordsFrom zero file = []
+wordsFrom (suc n) file = wordOf (getD file 0 0) (getD file 1 0) (getD file 2 0) (getD file 3 0) ∷ wordsFrom n (drop 4 file)
+
+unfoldable pub wordsIn : List ℕ → List ℕ
+wordsIn file = wordsFrom (length file / 4) file
+
+-- The n rows of the table: a call's number, its argument, how many head words it has and how many answer words. The bodies
+-- have to be as long as the rows say.
+unfoldable pub rowsWrong : ℕ → List ℕ → List ℕ → Bool
+rowsWrong zero rows bodies = not (eqb (length bodies) 0)
+rowsWrong (suc n) rows bodies =
+    let head : ℕ = getD rows 2 0 in
+    let size : ℕ = head + getD rows 3 0 in
+    ltb (length bodies) size
+    || (callWrong (getD rows 0 0) (getD rows 1 0) (take head bodies) || rowsWrong n (drop 4 rows) (drop size bodies))
+
+unfoldable pub tableWrong : ℕ → List ℕ → Bool
+tableWrong n words = ltb 64 n || (ltb (length words) (4 * n) || rowsWrong n words (drop (4 * n) words))
+
+-- a file without a count is too short
+unfoldable pub wordsWrong : List ℕ → Bool
+wordsWrong words = eqb (length words) 0 || tableWrong (getD words 0 0) (drop 1 words)
+
+unfoldable pub sizeWrong : ℕ → Bool
+sizeWrong bytes = ltb 65536 bytes || not (eqb (bytes % 4) 0)
+
+-- Refusal 14, every case: over 65,536 bytes, a last word that is not whole, or what is wrong with the words.
+abbrev pub fileWrong : List ℕ → Bool
+fileWrong file = sizeWrong (length file) || wordsWrong (wordsIn file)

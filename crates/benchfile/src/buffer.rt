@@ -1,0 +1,64 @@
+// The buffer of a call, laid out and cut to the room that there is.
+ghost use mathlib.Core.Path.{_≡_};
+ghost use Rattle.window.specs.Window.{asShown, windowOf, laid, emitOf};
+ghost use Rattle.benchfile.specs.Calls.{bytesIn, afterList, bytesOf, wholeBuffer};
+use crate::head;
+use crate::part::after;
+use crate::part::first;
+use crate::part::word;
+use window::Place;
+
+fn put_bytes(p: Place, words: &[u32], out: &mut [u8]) -> Place
+    ensures { λ r. ⌜ laid r (now (out .exit)) ≡ emitOf (bytesIn (now (words .entry))) (laid p (now (out .entry))) ⌝ }
+{
+    let mut q = p;
+    for i in 0..words.len() {
+        q = window::put(q, (words[i] % 256) as u8, out);
+    }
+    q
+}
+
+fn put_operations(p: Place, ops: &[u32], bytes: &[u32], out: &mut [u8]) -> Place
+    ensures { λ r. ⌜ laid r (now (out .exit)) ≡ emitOf (bytesOf (now (ops .entry)) (bytesIn (now (bytes .entry)))) (laid p (now (out .entry))) ⌝ }
+{
+    let mut q = p;
+    let mut rest = bytes;
+    for i in 0..ops.len() {
+        let size = head::length(ops[i]) as usize;
+        if head::is_read(ops[i]) {
+            q = window::put_zeros(q, size, out);
+        } else {
+            q = put_bytes(q, first(rest, size), out);
+            rest = after(rest, size);
+        }
+    }
+    q
+}
+
+// The words of a transaction's head after its list.
+fn after_list(head: &[u32]) -> &[u32]
+    ensures { λ r. ⌜ now r ≡ afterList (now (head .entry)) ⌝ }
+{
+    after(after(head, 1), word(head, 0) as usize)
+}
+
+fn put_buffer(p: Place, n: u32, a: u32, head: &[u32], out: &mut [u8]) -> Place
+    ensures { λ r. ⌜ laid r (now (out .exit)) ≡ emitOf (wholeBuffer n a (now (head .entry))) (laid p (now (out .entry))) ⌝ }
+{
+    match n {
+        7 => put_operations(p, head::list(head), after_list(head), out),
+        9 => window::put_zeros(p, a as usize, out),
+        11 => window::put_zeros(p, a as usize, out),
+        10 => put_bytes(p, head, out),
+        12 => put_bytes(p, head, out),
+        _ => p,
+    }
+}
+
+// Lays out the buffer of a call that is read like n, as far as there is room, and says how many bytes it has.
+pub fn lay(n: u32, a: u32, head: &[u32], out: &mut [u8]) -> usize
+    ensures { λ r. ⌜ asShown r (now (out .exit)) ≡ windowOf 0 (wholeBuffer n a (now (head .entry))) (now (out .entry)) ⌝ }
+{
+    let p = put_buffer(Place::new(0), n, a, head, out);
+    p.at
+}

@@ -1,0 +1,82 @@
+// A file's words, its table of contents and its bodies.
+ghost use mathlib.Core.Path.{_≡_};
+ghost use Rattle.window.specs.Window.{asShown, windowOf};
+ghost use Rattle.benchfile.specs.File.{wordOf, wordsIn, rowsWrong, tableWrong, wordsWrong, sizeWrong};
+use crate::head::is_call_wrong;
+use crate::part::after;
+use crate::part::first;
+use crate::part::word;
+
+fn word_of(a: u8, b: u8, c: u8, d: u8) -> u32
+    ensures { λ r. ⌜ r ≡ wordOf a b c d ⌝ }
+{
+    a as u32 + 256 * b as u32 + 65_536 * c as u32 + 16_777_216 * d as u32
+}
+
+// Puts the words of a file at the start of `words`, as many as there is room for, and says how many.
+pub fn decode(file: &[u8], words: &mut [u32]) -> usize
+    ensures { λ r. ⌜ asShown r (now (words .exit)) ≡ windowOf 0 (wordsIn (now (file .entry))) (now (words .entry)) ⌝ }
+{
+    let mut n = 0;
+    let mut rest = file;
+    while 4 <= rest.len() {
+        if words.len() <= n {
+            return n;
+        }
+        words[n] = word_of(rest[0], rest[1], rest[2], rest[3]);
+        rest = &rest[4..];
+        n += 1;
+    }
+    n
+}
+
+pub fn is_size_wrong(bytes: usize) -> bool
+    ensures { λ r. ⌜ r ≡ sizeWrong bytes ⌝ }
+{
+    bytes > 65_536 || bytes % 4 != 0
+}
+
+fn is_rows_wrong(n: usize, rows: &[u32], bodies: &[u32]) -> bool
+    ensures { λ r. ⌜ r ≡ rowsWrong n (now (rows .entry)) (now (bodies .entry)) ⌝ }
+{
+    let mut left = n;
+    let mut table = rows;
+    let mut rest = bodies;
+    while 0 < left {
+        let head = word(table, 2) as usize;
+        let size = head + word(table, 3) as usize;
+        if rest.len() < size {
+            return true;
+        }
+        if is_call_wrong(word(table, 0), word(table, 1), first(rest, head)) {
+            return true;
+        }
+        table = after(table, 4);
+        rest = after(rest, size);
+        left -= 1;
+    }
+    rest.len() != 0
+}
+
+fn is_table_wrong(n: usize, words: &[u32]) -> bool
+    ensures { λ r. ⌜ r ≡ tableWrong n (now (words .entry)) ⌝ }
+{
+    if n > 64 {
+        return true;
+    }
+    let table = 4 * n;
+    if words.len() < table {
+        return true;
+    }
+    is_rows_wrong(n, words, after(words, table))
+}
+
+// Whether a file's words are no bench file.
+pub fn is_wrong(words: &[u32]) -> bool
+    ensures { λ r. ⌜ r ≡ wordsWrong (now (words .entry)) ⌝ }
+{
+    if words.len() == 0 {
+        return true;
+    }
+    is_table_wrong(words[0] as usize, after(words, 1))
+}

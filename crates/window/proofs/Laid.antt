@@ -1,0 +1,120 @@
+-- Texts put into a window one after the other are one text, and what the window then holds is what it shows of it.
+-- Assumes nothing.
+use Prim.Native.Nat.{ℕ, zero, suc, _+_, _-_, _≤_, _<_}
+use native.Mathlib.Nat.{add-zero, zero-add}
+use native.Mathlib.Numerals.{add-one}
+use native.Mathlib.Omega.{arith}
+use mathlib.Core.Path.{_≡_, refl, sym, ap, _∙_, subst⁻¹}
+use mathlib.Core.Bool.{Bool, true, false, cond, _&&_}
+use mathlib.Core.List.{List, [], _∷_, _++_}
+use lib.Dec.{T, eqb, leb, ltb}
+use lib.ListN.{length, getD, take, drop, set, replicate, length-set, length-take, drop-of-length-le}
+use lib.Seq.{drop-cons, take-nil, sets, sets-eq}
+use borrow.Author.Tests.{eqb-true, leb-true, le-leb, lt-ltb, le-ltb}
+use Rattle.window.specs.Window.{Laid, laid, startOf, full, putOf, emitOf, Shown, shownOf, windowOf, asShown}
+use Rattle.window.specs.declared.Place.{Place}
+
+-- one text after the other
+pub emit-append : (t u : List ℕ) (L : Laid) → emitOf (t ++ u) L ≡ emitOf u (emitOf t L)
+unfolding emitOf
+emit-append [] u L = refl
+emit-append (b ∷ t) u L = emit-append t u (putOf b L)
+
+pub emit-none : (L : Laid) → emitOf [] L ≡ L
+unfolding emitOf
+emit-none L = refl
+
+pub emit-one : (b : ℕ) (L : Laid) → emitOf (b ∷ []) L ≡ putOf b L
+unfolding emitOf
+emit-one b L = refl
+
+pub emit-first : (b : ℕ) (t : List ℕ) (L : Laid) → emitOf (b ∷ t) L ≡ emitOf t (putOf b L)
+unfolding emitOf
+emit-first b t L = refl
+
+-- ---- one byte
+module _ (b skip at : ℕ) (bytes : List ℕ) where
+  abbrev here : Laid
+  here = record { skip = skip; at = at; bytes = bytes }
+
+  pub left-out : 0 < skip → record { skip = skip - 1; at = at; bytes = bytes } ≡ putOf b here
+  unfolding putOf
+  left-out h = rw (lt-ltb 0 skip h)
+
+  pub written : skip ≤ 0 → at < length bytes → record { skip = skip; at = at + 1; bytes = set bytes at b } ≡ putOf b here
+  unfolding putOf
+  written h l = rw (le-ltb 0 skip h, lt-ltb at (length bytes) l)
+
+  pub no-room : skip ≤ 0 → length bytes ≤ at → here ≡ putOf b here
+  unfolding putOf
+  no-room h l = rw (le-ltb 0 skip h, le-ltb at (length bytes) l)
+
+pub ruleset byte = (left-out, written, no-room)
+
+-- a full window takes nothing more
+both-true : (a b : Bool) → (a && b) ≡ true → (a ≡ true) × (b ≡ true)
+both-true true b h = (refl, h)
+both-true false b h = absurd (subst⁻¹ T h tt)
+
+full-put : (b : ℕ) (L : Laid) → full L ≡ true → putOf b L ≡ L
+full-put b L h =
+    let z = both-true (eqb (L .skip) 0) (leb (length (L .bytes)) (L .at)) h in
+    sym (no-room b (L .skip) (L .at) (L .bytes) (omega (arith, eqb-true (L .skip) 0 (z .0))) (leb-true (length (L .bytes)) (L .at) (z .1)))
+
+full-emit : (t : List ℕ) (L : Laid) → full L ≡ true → emitOf t L ≡ L
+unfolding emitOf
+full-emit [] L h = refl
+full-emit (b ∷ t) L h = ap (emitOf t) (full-put b L h) ∙ full-emit t L h
+
+-- ---- a text t of which the bytes before i are put
+module _ (t : List ℕ) (L : Laid) (i : ℕ) (M : Laid) (done : emitOf (drop i t) M ≡ emitOf t L) where
+  pub all-put : length t ≤ i → M ≡ emitOf t L
+  unfolding emitOf
+  all-put h = rw (drop-of-length-le t h) at done
+
+  pub next-put : i < length t → (b : ℕ) (N : Laid) → b ≡ getD t i 0 → N ≡ putOf b M → emitOf (drop (i + 1) t) N ≡ emitOf t L
+  unfolding emitOf
+  next-put h b N e f = rw (f, e, add-one) (rw (drop-cons t i 0 h) at done)
+
+-- ---- zeros, of which n are left
+module _ (n : ℕ) (L : Laid) (k : ℕ) (M : Laid) (done : emitOf (replicate n 0) M ≡ emitOf (replicate k 0) L) where
+  pub zeros-put : n ≤ 0 → M ≡ emitOf (replicate k 0) L
+  unfolding emitOf
+  zeros-put h = (let e : n ≡ 0 = omega arith in rw e at done)
+
+  pub zeros-full : (r : Bool) → r ≡ full M → r ≡ true → M ≡ emitOf (replicate k 0) L
+  zeros-full r e h = sym (full-emit (replicate n 0) M (sym e ∙ h)) ∙ done
+
+  pub next-zero : 0 < n → (N : Laid) → N ≡ putOf 0 M → emitOf (replicate (n - 1) 0) N ≡ emitOf (replicate k 0) L
+  unfolding emitOf
+  next-zero h N f = rw f (let e : n ≡ suc (n - 1) = omega arith in rw e at done)
+
+-- ---- what the window shows in the end
+shows : (t : List ℕ) (at : ℕ) (bytes : List ℕ) (n : ℕ) → at + n ≡ length bytes →
+    emitOf t (record { skip = 0; at = at; bytes = bytes }) ≡ record { skip = 0; at = at + length (take n t); bytes = sets bytes at (take n t) }
+unfolding emitOf
+shows [] at bytes n h = simp (take-nil, add-zero)
+shows (b ∷ t) at bytes zero h = full-emit (b ∷ t) _ (le-leb (length bytes) at (omega arith)) ∙ simp add-zero
+shows (b ∷ t) at bytes (suc n) h =
+    ap (emitOf t) (sym (written b 0 at bytes (omega arith) (omega arith)))
+    ∙ shows t (at + 1) (set bytes at b) n (simp length-set (omega arith))
+    ∙ (let e : at + 1 ≡ suc at = omega arith in
+    let f : suc at + length (take n t) ≡ at + suc (length (take n t)) = omega arith in
+    rw (e, f))
+
+-- of which asShown is what a caller sees
+pub windowed : (from : ℕ) (t bytes : List ℕ) (L : Laid) → L ≡ emitOf t (laid (startOf from) bytes) →
+    asShown (L .at) (L .bytes) ≡ windowOf from t bytes
+unfolding emitOf windowOf
+windowed from t bytes L e = ap (λ (M : Laid). asShown (M .at) (M .bytes)) e ∙ go from t
+  where
+    go : (from : ℕ) (t : List ℕ) → (let M = emitOf t (laid (startOf from) bytes) in asShown (M .at) (M .bytes)) ≡ windowOf from t bytes
+    go zero t =
+        ap (λ (M : Laid). asShown (M .at) (M .bytes)) (shows t 0 bytes (length bytes) (omega arith))
+        ∙ (let s : List ℕ = take (length bytes) t in
+        let h : 0 + length s ≤ length bytes = simp length-take (omega arith) in
+        rw (sets-eq s bytes 0 h) (simp zero-add))
+    go (suc from) [] = simp take-nil
+    go (suc from) (b ∷ t) =
+        ap (λ (M : Laid). asShown (emitOf t M .at) (emitOf t M .bytes)) (sym (left-out b (suc from) 0 bytes (omega arith)))
+        ∙ (let e : suc from - 1 ≡ from = omega arith in rw e (go from t))
