@@ -61,7 +61,7 @@ isNothing (Write r v) = false
 isNothing Nothing = true
 
 -- why an advance over n places and the answers l came back
-data RunCame (q : Request) (n : ℕ) (l : List ℕ) (R : Run) : Type 0 where
+pub data RunCame (q : Request) (n : ℕ) (l : List ℕ) (R : Run) : Type 0 where
   over′ : T (is (R .saved .step) Ended) → R .report ≡ Over (R .saved .outcome) → RunCame q n l R
   full′ : T (not (is (R .saved .step) Ended)) → length (R .entries) ≡ n → R .report ≡ Full → RunCame q n l R
   waiting′ : T (not (is (R .saved .step) Ended)) → length (R .entries) < n → T (isRead (accessOf q (R .buffer) (R .saved))) →
@@ -69,13 +69,13 @@ data RunCame (q : Request) (n : ℕ) (l : List ℕ) (R : Run) : Type 0 where
 
 -- what an advance R from s is to the uncut run: over the answers that it used and then `rest`, to as many accesses and m
 -- more, that is the advance and then the run over `rest`
-record Part (q : Request) (n : ℕ) (s : SavedCall) (b l : List ℕ) (R : Run) : Type 0 where
-  goes-on : (m : ℕ) (rest : List ℕ) →
+pub record Part (q : Request) (n : ℕ) (s : SavedCall) (b l : List ℕ) (R : Run) : Type 0 where
+  pub goes-on : (m : ℕ) (rest : List ℕ) →
       uncutOf q (length (R .entries) + m) s b (take (R .used) l ++ rest) ≡ before (R .entries) (uncutOf q m (R .saved) (R .buffer) rest)
-  answers : answersIn (R .entries) ≡ take (R .used) l
-  size : length (R .buffer) ≡ length b
-  accepted : T (accepts q s) → T (accepts q (R .saved))
-  came : RunCame q n l R
+  pub answers : answersIn (R .entries) ≡ take (R .used) l
+  pub size : length (R .buffer) ≡ length b
+  pub accepted : T (accepts q s) → T (accepts q (R .saved))
+  pub came : RunCame q n l R
 
 -- an advance that makes an access first
 came-more : (q : Request) (n : ℕ) (l l′ : List ℕ) (e : Entry) (u : ℕ) (R : Run) → RunCame q n l R → (R .used ≡ length l → u ≡ length l′)
@@ -140,7 +140,7 @@ module _ (q : Request) where
           came = came-more q n l (a ∷ l) (readEntry Rxdr a) _ _ (p .came) (ap suc);
         }
 
-  part : (n : ℕ) (s : SavedCall) (b l : List ℕ) → Part q n s b l (advanceFrom q n s b l)
+  pub part : (n : ℕ) (s : SavedCall) (b l : List ℕ) → Part q n s b l (advanceFrom q n s b l)
   unfolding advanceFrom
   part zero s b l =
       nothing zero _ s b l
@@ -150,7 +150,7 @@ module _ (q : Request) where
   part (suc n) s b l = turn n (part n) s b l (accessOf q b s) refl
 
   -- past its end a call makes no access
-  ended-stays : (m : ℕ) (s : SavedCall) (b l : List ℕ) → T (is (s .step) Ended) → uncutOf q m s b l ≡ here s b
+  pub ended-stays : (m : ℕ) (s : SavedCall) (b l : List ℕ) → T (is (s .step) Ended) → uncutOf q m s b l ≡ here s b
   unfolding uncutOf
   ended-stays zero s b l h = refl
   ended-stays (suc m) s b l h = go (accessOf q b s) (rw (ended-nothing q b s) at h)
@@ -195,7 +195,7 @@ in-log A R g =
     (take-at (wordsOf (R .entries)) (drop (length (wordsOf (R .entries))) (A .log)) (2 * length (R .entries)) (two-each (R .entries)))
 
 -- an accepted description and saved call are run
-runs : (c : Call) (d : Description) (ops : List ℕ) (n : ℕ) (s : SavedCall) (b l : List ℕ) → checkOf d ops (length b) ≡ Accepted c
+pub runs : (c : Call) (d : Description) (ops : List ℕ) (n : ℕ) (s : SavedCall) (b l : List ℕ) → checkOf d ops (length b) ≡ Accepted c
     → T (accepts (requestOf c d ops (length b)) s) → runOf d ops n s b l ≡ advanceFrom (requestOf c d ops (length b)) n s b l
 unfolding runOf
 runs c d ops n s b l e h = rw (e, is-true (accepts (requestOf c d ops (length b)) s) h)

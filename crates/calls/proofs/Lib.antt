@@ -12,4 +12,6 @@ pub mod Counts
 pub mod Fit
 pub mod Cut
 pub mod Demand
+pub mod Joined
+pub mod Ends
 pub mod Cases

@@ -5,6 +5,8 @@ pub mod Words
 pub mod Steps
 pub mod Refusals
 pub mod Run
+pub mod Joined
 pub mod Advances
+pub mod Whole
 pub mod Bytes
 pub mod Demand

@@ -6,7 +6,7 @@ use Prim.Native.String as text
 use mathlib.Core.Path.{_≡_, refl}
 use mathlib.Core.List.{List, [], _∷_, map}
 use lib.ListN.{replicate}
-use Rattle.numerals.specs.Numbers.{digitOf, numberOf, isHex, parsedOf, hexDigitOf, hexOf}
+use Rattle.numerals.specs.Numbers.{digitOf, numberOf, isHex, parsedOf, hexDigitOf, spelledOf, hexOf, significantOf, decimalOf}
 use Rattle.numerals.specs.Words.{isBlank, wordOf, afterWord}
 use Rattle.numerals.specs.declared.Parsed.{Parsed}
 use Rattle.numerals.specs.declared.Parsed.the-variants.{Number, NotNumber}
@@ -27,8 +27,12 @@ unfolding parsedOf isHex numberOf digitOf
 no-numbers = refl
 
 spelled : hexOf 8 0x60FB1C39 ≡ codes "60FB1C39"
-unfolding hexOf hexDigitOf
+unfolding spelledOf hexDigitOf
 spelled = refl
+
+decimal : map decimalOf (0 ∷ 7 ∷ 10 ∷ 4294967295 ∷ 18446744073709551615 ∷ []) ≡ map codes ("0" ∷ "7" ∷ "10" ∷ "4294967295" ∷ "18446744073709551615" ∷ [])
+unfolding spelledOf hexDigitOf significantOf
+decimal = refl
 
 word : wordOf (codes " 8000000\t400000") ≡ codes "8000000"
 unfolding isBlank

@@ -43,7 +43,20 @@ parsedOf s = cond (isHex s) (numberOf 16 (drop 2 s)) (numberOf 10 s)
 unfoldable pub hexDigitOf : ℕ → ℕ
 hexDigitOf d = cond (ltb d 10) (48 + d) (65 + (d - 10))
 
--- the last k hexadecimal digits of n
-unfoldable pub hexOf : ℕ → ℕ → List ℕ
-hexOf zero n = []
-hexOf (suc k) n = hexOf k (n / 16) ++ (hexDigitOf (n % 16) ∷ [])
+-- the last k digits of n in a base
+unfoldable pub spelledOf : ℕ → ℕ → ℕ → List ℕ
+spelledOf base zero n = []
+spelledOf base (suc k) n = spelledOf base k (n / base) ++ (hexDigitOf (n % base) ∷ [])
+
+abbrev pub hexOf : ℕ → ℕ → List ℕ
+hexOf k n = spelledOf 16 k n
+
+-- without the zeros (48) before the first other digit; the last digit stays
+unfoldable pub significantOf : List ℕ → List ℕ
+significantOf [] = []
+significantOf (d ∷ []) = d ∷ []
+significantOf (d ∷ e ∷ s) = cond (eqb d 48) (significantOf (e ∷ s)) (d ∷ e ∷ s)
+
+-- in decimal: 20 digits hold 64 bits
+abbrev pub decimalOf : ℕ → List ℕ
+decimalOf n = significantOf (spelledOf 10 20 n)

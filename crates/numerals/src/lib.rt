@@ -1,7 +1,8 @@
 // Numbers as text in ASCII: a number read and written, and a text cut into words.
 ghost use mathlib.Core.Path.{_≡_};
 ghost use Prim.Native.Nat.{_≤_, _<_};
-ghost use Rattle.numerals.specs.Numbers.{digitOf, numberOf, isHex, parsedOf, hexDigitOf, hexOf};
+ghost use lib.ListN.{length};
+ghost use Rattle.numerals.specs.Numbers.{digitOf, numberOf, isHex, parsedOf, hexDigitOf, spelledOf, hexOf, significantOf};
 ghost use Rattle.numerals.specs.Words.{isBlank, blankIs, dropWhile, wordOf, afterWord};
 
 pub enum Parsed {
@@ -67,17 +68,43 @@ pub fn hex(n: u32) -> [u8; 8]
     ensures { λ r. ⌜ r ≡ hexOf 8 n ⌝ }
 {
     let mut text = [0u8; 8];
-    let mut rest = n;
-    let mut i = 8;
-    while i > 0 {
-        i -= 1;
-        text[i] = hex_digit(rest % 16);
-        rest /= 16;
-    }
+    spell(n as u64, 16, &mut text);
     text
 }
 
-fn hex_digit(d: u32) -> u8
+// A byte in two hexadecimal digits.
+pub fn hex_byte(b: u8) -> [u8; 2]
+    ensures { λ r. ⌜ r ≡ hexOf 2 b ⌝ }
+{
+    let mut text = [0u8; 2];
+    spell(b as u64, 16, &mut text);
+    text
+}
+
+// `n` in twenty decimal digits, which 64 bits fit into; `significant` leaves the zeros in front out.
+pub fn digits(n: u64) -> [u8; 20]
+    ensures { λ r. ⌜ r ≡ spelledOf 10 20 n ⌝ }
+{
+    let mut text = [0u8; 20];
+    spell(n, 10, &mut text);
+    text
+}
+
+// Fills `text` with the last digits of `n` in a base.
+fn spell(n: u64, base: u64, text: &mut [u8])
+    requires { ⌜ (1 ≤ base) × (base ≤ 16) ⌝ }
+    ensures { λ _. ⌜ now (text .exit) ≡ spelledOf base (length (now (text .entry))) n ⌝ }
+{
+    let mut rest = n;
+    let mut i = text.len();
+    while i > 0 {
+        i -= 1;
+        text[i] = hex_digit(rest % base);
+        rest /= base;
+    }
+}
+
+fn hex_digit(d: u64) -> u8
     requires { ⌜ d < 16 ⌝ }
     ensures { λ r. ⌜ r ≡ hexDigitOf d ⌝ }
 {
@@ -86,6 +113,20 @@ fn hex_digit(d: u32) -> u8
     } else {
         b'A' + (d as u8 - 10)
     }
+}
+
+// Digits without the zeros in front; the last digit stays.
+pub fn significant(s: &[u8]) -> &[u8]
+    ensures { λ r. ⌜ now r ≡ significantOf (now (s .entry)) ⌝ }
+{
+    let mut rest = s;
+    while rest.len() > 1 {
+        if rest[0] != b'0' {
+            return rest;
+        }
+        rest = &rest[1..];
+    }
+    rest
 }
 
 // The first word of `s`, empty where `s` has none.

@@ -1,0 +1,63 @@
+-- Texts put one after the other, and the loops over a log and a buffer. Assumes nothing.
+use Prim.Native.Nat.{ℕ, _-_, _≤_, _<_}
+use native.Mathlib.Omega.{arith}
+use mathlib.Core.Path.{_≡_, refl, sym, ap, _∙_}
+use mathlib.Core.List.{List, [], _∷_, _++_}
+use lib.ListN.{length, getD, take, drop}
+use lib.Seq.{take-all}
+use borrow.Author.Tests.{lt-ltb, le-ltb, eq-eqb, ne-eqb}
+use Rattle.numerals.specs.Numbers.{hexOf}
+use Rattle.window.specs.Window.{Laid, emitOf}
+use Rattle.window.proofs.Laid.{emit-append, emit-none}
+use Rattle.lines.specs.Lines.{accessLine, accessLines, bytesText}
+
+pub ruleset tests = (lt-ltb, le-ltb, eq-eqb, ne-eqb)
+
+-- the text of what was found to be y
+pub found : {A : Type 0} (text : A → List ℕ) (x y : A) (L M : Laid) → x ≡ y → M ≡ emitOf (text y) L → M ≡ emitOf (text x) L
+found {A = A} text x y L M e m = m ∙ ap (λ (z : A). emitOf (text z) L) (sym e)
+
+-- one text more
+pub then : (t u : List ℕ) (K L M : Laid) → L ≡ emitOf t K → M ≡ emitOf u L → M ≡ emitOf (t ++ u) K
+then t u K L M e f = f ∙ ap (emitOf u) e ∙ sym (emit-append t u K)
+
+-- ---- the entries of a log, those of `rest` still to be put where the text stands
+no-entry : (ws : List ℕ) → length ws ≤ 1 → accessLines ws ≡ []
+unfolding accessLines
+no-entry [] h = refl
+no-entry (w ∷ []) h = refl
+no-entry (w ∷ v ∷ ws) h = absurd (omega arith)
+
+first-entry : (ws : List ℕ) → 1 < length ws →
+    accessLines ws ≡ accessLine (getD ws 0 0) (getD ws 1 0) ++ accessLines (take (length ws - 2) (drop 2 ws))
+unfolding accessLines
+first-entry [] h = absurd (omega arith)
+first-entry (w ∷ []) h = absurd (omega arith)
+first-entry (w ∷ v ∷ ws) h = rw (take-all (length (w ∷ v ∷ ws) - 2) ws (omega arith))
+
+module _ (log rest : List ℕ) (K L : Laid) (done : emitOf (accessLines rest) L ≡ emitOf (accessLines log) K) where
+  pub entries-put : length rest ≤ 1 → L ≡ emitOf (accessLines log) K
+  entries-put h = rw (no-entry rest h, emit-none) at done
+
+  pub next-entry : 1 < length rest → (M : Laid) → M ≡ emitOf (accessLine (getD rest 0 0) (getD rest 1 0)) L →
+      emitOf (accessLines (take (length rest - 2) (drop 2 rest))) M ≡ emitOf (accessLines log) K
+  next-entry h M e = rw e (rw (first-entry rest h, emit-append) at done)
+
+-- ---- the bytes of a buffer, likewise
+first-byte : (bs : List ℕ) → 0 < length bs → bytesText bs ≡ hexOf 2 (getD bs 0 0) ++ bytesText (take (length bs - 1) (drop 1 bs))
+unfolding bytesText
+first-byte [] h = absurd (omega arith)
+first-byte (b ∷ bs) h = rw (take-all (length (b ∷ bs) - 1) bs (omega arith))
+
+no-byte : (bs : List ℕ) → length bs ≤ 0 → bytesText bs ≡ []
+unfolding bytesText
+no-byte [] h = refl
+no-byte (b ∷ bs) h = absurd (omega arith)
+
+module _ (bytes rest : List ℕ) (K L : Laid) (done : emitOf (bytesText rest) L ≡ emitOf (bytesText bytes) K) where
+  pub bytes-put : length rest ≤ 0 → L ≡ emitOf (bytesText bytes) K
+  bytes-put h = rw (no-byte rest h, emit-none) at done
+
+  pub next-byte : 0 < length rest → (M : Laid) → M ≡ emitOf (hexOf 2 (getD rest 0 0)) L →
+      emitOf (bytesText (take (length rest - 1) (drop 1 rest))) M ≡ emitOf (bytesText bytes) K
+  next-byte h M e = rw e (rw (first-byte rest h, emit-append) at done)

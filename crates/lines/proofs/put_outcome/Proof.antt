@@ -1,0 +1,61 @@
+-- `lines::put_outcome` meets its contract, word by word. Assumes nothing.
+use borrow.Author.Needs.{needs}
+use Rattle.lines.specs.Lines.{outcomeWord}
+use Rattle.lines.proofs.Texts.{found}
+use Rattle.lines.proofs.put_outcome.Statement.{statement}
+use Rattle.lines.proofs.put_outcome.Tie as tie
+
+pub put-outcome-spec : {M : Type 1} → statement M
+put-outcome-spec =
+    tie.close
+    (tie.spec
+    (λ c. search needs)
+    (λ c. search needs)
+    (λ c κs. search needs)
+    (λ c. search needs)
+    (λ c. search needs)
+    (λ c κs. search needs)
+    (λ c. search needs)
+    (λ c. search needs)
+    (λ c κs. search needs)
+    (λ c. search needs)
+    (λ c. search needs)
+    (λ c κs. search needs)
+    (λ c. search needs)
+    (λ c. search needs)
+    (λ c κs. search needs)
+    (λ c. search needs)
+    (λ c. search needs)
+    (λ c κs. search needs)
+    (λ c. search needs)
+    (λ c. search needs)
+    (λ c κs. search needs)
+    (λ c. search needs)
+    (λ c. search needs)
+    (λ c κs. search needs)
+    (λ c. search needs)
+    (λ c. search needs)
+    (λ c κs. search needs)
+    (λ c. search needs)
+    (λ c. search needs)
+    (λ c κs. search needs)
+    (λ c. search needs)
+    (λ c. found outcomeWord _ _ _ _ (c .before .before .before .before .before .enum-told .given .1) (c .before .before .put-all .ensures))
+    (λ c. search needs)
+    (λ c. found outcomeWord _ _ _ _ (c .before .before .before .before .before .enum-told2 .given .1) (c .before .before .put-all2 .ensures))
+    (λ c. search needs)
+    (λ c. found outcomeWord _ _ _ _ (c .before .before .before .before .before .enum-told3 .given .1) (c .before .before .put-all3 .ensures))
+    (λ c. search needs)
+    (λ c. found outcomeWord _ _ _ _ (c .before .before .before .before .before .enum-told4 .given .1) (c .before .before .put-all4 .ensures))
+    (λ c. search needs)
+    (λ c. found outcomeWord _ _ _ _ (c .before .before .before .before .before .enum-told5 .given .1) (c .before .before .put-all5 .ensures))
+    (λ c. search needs)
+    (λ c. found outcomeWord _ _ _ _ (c .before .before .before .before .before .enum-told6 .given .1) (c .before .before .put-all6 .ensures))
+    (λ c. search needs)
+    (λ c. found outcomeWord _ _ _ _ (c .before .before .before .before .before .enum-told7 .given .1) (c .before .before .put-all7 .ensures))
+    (λ c. search needs)
+    (λ c. found outcomeWord _ _ _ _ (c .before .before .before .before .before .enum-told8 .given .1) (c .before .before .put-all8 .ensures))
+    (λ c. search needs)
+    (λ c. found outcomeWord _ _ _ _ (c .before .before .before .before .before .enum-told9 .given .1) (c .before .before .put-all9 .ensures))
+    (λ c. search needs)
+    (λ c. found outcomeWord _ _ _ _ (c .before .before .before .before .before .enum-told10 .given .1) (c .before .before .put-all10 .ensures)))

@@ -1,0 +1,30 @@
+-- `lines::put_report` meets its contract, word by word. Assumes nothing.
+use borrow.Author.Needs.{needs}
+use Rattle.lines.specs.Lines.{reportWord}
+use Rattle.lines.proofs.Texts.{found}
+use Rattle.lines.proofs.put_report.Statement.{statement}
+use Rattle.lines.proofs.put_report.Tie as tie
+
+pub put-report-spec : {M : Type 1} → statement M
+put-report-spec =
+    tie.close
+    (tie.spec
+    (λ c. search needs)
+    (λ c κs. search needs)
+    (λ c. search needs)
+    (λ c. search needs)
+    (λ c κs. search needs)
+    (λ c. search needs)
+    (λ c. search needs)
+    (λ c κs. search needs)
+    (λ c. search needs)
+    (λ c. search needs)
+    (λ c κs. search needs)
+    (λ c. search needs)
+    (λ c. found reportWord _ _ _ _ (c .before .before .before .before .before .r .given .1) (c .before .before .put-outcome .ensures))
+    (λ c. search needs)
+    (λ c. found reportWord _ _ _ _ (c .before .before .before .before .before .enum-told .given .1) (c .before .before .put-all .ensures))
+    (λ c. search needs)
+    (λ c. found reportWord _ _ _ _ (c .before .before .before .before .before .enum-told2 .given .1) (c .before .before .put-all2 .ensures))
+    (λ c. search needs)
+    (λ c. found reportWord _ _ _ _ (c .before .before .before .before .before .enum-told3 .given .1) (c .before .before .put-all3 .ensures)))

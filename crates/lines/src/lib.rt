@@ -1,0 +1,209 @@
+// The lines that the bench prints, each put into a window on the whole text.
+ghost use mathlib.Core.Path.{_≡_};
+ghost use Rattle.calls.specs.Outcomes.{outcomeValue, refusalNumber, reportValue};
+ghost use Rattle.numerals.specs.Numbers.{hexOf, decimalOf};
+ghost use Rattle.window.specs.Window.{laid, emitOf};
+ghost use Rattle.lines.specs.Lines.{space, newline, numberField, outcomeWord, reportWord, callStart, callLine, letterOf, accessLine, accessLines, bytesText, fullBuffer, bufferLine, refusalLine};
+use calls::Outcome;
+use calls::Refusal;
+use calls::Report;
+use window::Place;
+
+fn put_outcome(p: Place, o: Outcome, out: &mut [u8]) -> Place
+    ensures { λ r. ⌜ laid r (now (out .exit)) ≡ emitOf (outcomeWord o) (laid p (now (out .entry))) ⌝ }
+{
+    match o {
+        Outcome::Done(_) => window::put_all(p, b"done", out),
+        Outcome::Bus => window::put_all(p, b"bus", out),
+        Outcome::Arbitration => window::put_all(p, b"arbitration", out),
+        Outcome::Nack => window::put_all(p, b"nack", out),
+        Outcome::Stopped => window::put_all(p, b"stopped", out),
+        Outcome::ExpectedWrite => window::put_all(p, b"expected-write", out),
+        Outcome::ExpectedRead => window::put_all(p, b"expected-read", out),
+        Outcome::EventRead(_) => window::put_all(p, b"event-read", out),
+        Outcome::EventWrite(_) => window::put_all(p, b"event-write", out),
+        Outcome::EventStop => window::put_all(p, b"event-stop", out),
+    }
+}
+
+fn put_report(p: Place, r: Report, out: &mut [u8]) -> Place
+    ensures { λ q. ⌜ laid q (now (out .exit)) ≡ emitOf (reportWord r) (laid p (now (out .entry))) ⌝ }
+{
+    match r {
+        Report::Over(o) => put_outcome(p, o, out),
+        Report::Waiting => window::put_all(p, b"waiting", out),
+        Report::Refused(_) => window::put_all(p, b"refused", out),
+        Report::Full => window::put_all(p, b"full", out),
+    }
+}
+
+fn refusal_number(r: Refusal) -> u32
+    ensures { λ n. ⌜ n ≡ refusalNumber r ⌝ }
+{
+    match r {
+        Refusal::Address => 8,
+        Refusal::Long => 9,
+        Refusal::List => 10,
+        Refusal::Buffer => 11,
+        Refusal::NoSuchCall => 12,
+        Refusal::SavedCall => 13,
+    }
+}
+
+fn outcome_value(o: Outcome) -> u32
+    ensures { λ n. ⌜ n ≡ outcomeValue o ⌝ }
+{
+    match o {
+        Outcome::Done(n) => n,
+        Outcome::Bus => 0,
+        Outcome::Arbitration => 0,
+        Outcome::Nack => 0,
+        Outcome::Stopped => 0,
+        Outcome::ExpectedWrite => 0,
+        Outcome::ExpectedRead => 0,
+        Outcome::EventRead(address) => address,
+        Outcome::EventWrite(address) => address,
+        Outcome::EventStop => 0,
+    }
+}
+
+fn report_value(r: Report) -> u32
+    ensures { λ n. ⌜ n ≡ reportValue r ⌝ }
+{
+    match r {
+        Report::Over(o) => outcome_value(o),
+        Report::Waiting => 0,
+        Report::Refused(why) => refusal_number(why),
+        Report::Full => 0,
+    }
+}
+
+fn put_decimal(p: Place, n: u64, out: &mut [u8]) -> Place
+    ensures { λ r. ⌜ laid r (now (out .exit)) ≡ emitOf (decimalOf n) (laid p (now (out .entry))) ⌝ }
+{
+    let digits = numerals::digits(n);
+    window::put_all(p, numerals::significant(&digits), out)
+}
+
+fn put_byte(p: Place, b: u8, out: &mut [u8]) -> Place
+    ensures { λ r. ⌜ laid r (now (out .exit)) ≡ emitOf (hexOf 2 b) (laid p (now (out .entry))) ⌝ }
+{
+    let digits = numerals::hex_byte(b);
+    window::put_all(p, &digits, out)
+}
+
+fn put_word(p: Place, n: u32, out: &mut [u8]) -> Place
+    ensures { λ r. ⌜ laid r (now (out .exit)) ≡ emitOf (hexOf 8 n) (laid p (now (out .entry))) ⌝ }
+{
+    let digits = numerals::hex(n);
+    window::put_all(p, &digits, out)
+}
+
+fn put_space(p: Place, out: &mut [u8]) -> Place
+    ensures { λ r. ⌜ laid r (now (out .exit)) ≡ emitOf space (laid p (now (out .entry))) ⌝ }
+{
+    window::put_all(p, b" ", out)
+}
+
+fn put_newline(p: Place, out: &mut [u8]) -> Place
+    ensures { λ r. ⌜ laid r (now (out .exit)) ≡ emitOf newline (laid p (now (out .entry))) ⌝ }
+{
+    window::put_all(p, b"\n", out)
+}
+
+fn put_number_field(p: Place, n: u64, out: &mut [u8]) -> Place
+    ensures { λ r. ⌜ laid r (now (out .exit)) ≡ emitOf (numberField n) (laid p (now (out .entry))) ⌝ }
+{
+    let p = put_space(p, out);
+    put_decimal(p, n, out)
+}
+
+fn put_call_start(p: Place, n: u32, r: Report, out: &mut [u8]) -> Place
+    ensures { λ q. ⌜ laid q (now (out .exit)) ≡ emitOf (callStart n r) (laid p (now (out .entry))) ⌝ }
+{
+    let p = put_decimal(p, n as u64, out);
+    let p = put_space(p, out);
+    put_report(p, r, out)
+}
+
+// The line of a call: its number, what came of it, the answers used and the accesses made.
+pub fn put_call(p: Place, n: u32, r: Report, used: usize, accesses: usize, out: &mut [u8]) -> Place
+    ensures { λ q. ⌜ laid q (now (out .exit)) ≡ emitOf (callLine n r used accesses) (laid p (now (out .entry))) ⌝ }
+{
+    let p = put_call_start(p, n, r, out);
+    let p = put_number_field(p, report_value(r) as u64, out);
+    let p = put_number_field(p, used as u64, out);
+    let p = put_number_field(p, accesses as u64, out);
+    put_newline(p, out)
+}
+
+fn put_letter(p: Place, offset: u32, out: &mut [u8]) -> Place
+    ensures { λ r. ⌜ laid r (now (out .exit)) ≡ emitOf (letterOf offset) (laid p (now (out .entry))) ⌝ }
+{
+    if offset < 0x100 {
+        window::put_all(p, b"r ", out)
+    } else {
+        window::put_all(p, b"w ", out)
+    }
+}
+
+fn put_access(p: Place, offset: u32, value: u32, out: &mut [u8]) -> Place
+    ensures { λ r. ⌜ laid r (now (out .exit)) ≡ emitOf (accessLine offset value) (laid p (now (out .entry))) ⌝ }
+{
+    let p = put_letter(p, offset, out);
+    let p = put_byte(p, (offset % 0x100) as u8, out);
+    let p = put_space(p, out);
+    let p = put_word(p, value, out);
+    put_newline(p, out)
+}
+
+// The lines of the entries that stand in a log's words.
+pub fn put_accesses(p: Place, log: &[u32], out: &mut [u8]) -> Place
+    ensures { λ r. ⌜ laid r (now (out .exit)) ≡ emitOf (accessLines (now (log .entry))) (laid p (now (out .entry))) ⌝ }
+{
+    let mut q = p;
+    let mut rest = log;
+    while rest.len() > 1 {
+        q = put_access(q, rest[0], rest[1], out);
+        rest = &rest[2..];
+    }
+    q
+}
+
+fn put_bytes(p: Place, bytes: &[u8], out: &mut [u8]) -> Place
+    ensures { λ r. ⌜ laid r (now (out .exit)) ≡ emitOf (bytesText (now (bytes .entry))) (laid p (now (out .entry))) ⌝ }
+{
+    let mut q = p;
+    let mut rest = bytes;
+    while rest.len() > 0 {
+        q = put_byte(q, rest[0], out);
+        rest = &rest[1..];
+    }
+    q
+}
+
+fn put_full_buffer(p: Place, bytes: &[u8], out: &mut [u8]) -> Place
+    ensures { λ r. ⌜ laid r (now (out .exit)) ≡ emitOf (fullBuffer (now (bytes .entry))) (laid p (now (out .entry))) ⌝ }
+{
+    let p = window::put_all(p, b"b ", out);
+    let p = put_bytes(p, bytes, out);
+    put_newline(p, out)
+}
+
+// The line of a buffer.
+pub fn put_buffer(p: Place, bytes: &[u8], out: &mut [u8]) -> Place
+    ensures { λ r. ⌜ laid r (now (out .exit)) ≡ emitOf (bufferLine (now (bytes .entry))) (laid p (now (out .entry))) ⌝ }
+{
+    if bytes.len() == 0 {
+        window::put_all(p, b"b\n", out)
+    } else {
+        put_full_buffer(p, bytes, out)
+    }
+}
+
+// What is printed of a file that is no bench file.
+pub fn put_refusal(p: Place, out: &mut [u8]) -> Place
+    ensures { λ r. ⌜ laid r (now (out .exit)) ≡ emitOf refusalLine (laid p (now (out .entry))) ⌝ }
+{
+    window::put_all(p, b"file 14\n", out)
+}
