@@ -1,11 +1,15 @@
 //! Compares the Rattle library with the Rust driver.
 
 mod answer;
+mod bench;
 mod calls;
+mod difference;
 mod packing;
 mod pairs;
+mod process;
 mod random;
 mod rattle;
+mod shrink;
 mod store;
 mod timing;
 
@@ -14,8 +18,10 @@ use std::{env, process::ExitCode};
 const USAGE: &str = "usage: compare timing [--pairs N] [--seed S]
        compare packing [--seed S]
        compare calls --program FILE [--runs N] [--seed S]
+       compare bench --program FILE [--files N] [--seed S]
        compare store-timing --inputs FILE --answers FILE [--check]
-       compare store-calls --inputs FILE --answers FILE [--check]";
+       compare store-calls --inputs FILE --answers FILE [--check]
+       compare store-bench --crate DIR [--check]";
 
 fn main() -> ExitCode {
     match command(Arguments(env::args().skip(1).collect())) {
@@ -44,26 +50,40 @@ fn command(mut arguments: Arguments) -> Result<bool, String> {
             Ok(packing::compare(seed))
         }
         "calls" => {
-            let program = arguments
-                .value("--program")?
-                .ok_or("--program is missing")?;
+            let program = arguments.needed("--program")?;
             let runs = arguments.number("--runs", 5_000)?;
             let seed = arguments.number("--seed", 1)?;
             arguments.none_left()?;
             calls::compare(runs, seed, &program).map_err(|error| error.to_string())
         }
+        "bench" => {
+            let program = arguments.needed("--program")?;
+            let files = arguments.number("--files", 5_000)?;
+            let seed = arguments.number("--seed", 1)?;
+            arguments.none_left()?;
+            bench::compare(files, seed, &program).map_err(|error| error.to_string())
+        }
         "store-timing" => store(arguments, store::timing()),
         "store-calls" => store(arguments, calls::sample::texts()),
+        "store-bench" => {
+            let folder = arguments.needed("--crate")?;
+            let check = arguments.flag("--check");
+            arguments.none_left()?;
+            let result = if check {
+                bench::store::check(&folder)
+            } else {
+                bench::store::write(&folder)
+            };
+            result.map_err(|error| error.to_string())
+        }
         _ => Err(format!("there is no command {command}")),
     }
 }
 
 /// Writes a sample's two files, or checks them.
 fn store(mut arguments: Arguments, texts: store::Texts) -> Result<bool, String> {
-    let inputs = arguments.value("--inputs")?.ok_or("--inputs is missing")?;
-    let answers = arguments
-        .value("--answers")?
-        .ok_or("--answers is missing")?;
+    let inputs = arguments.needed("--inputs")?;
+    let answers = arguments.needed("--answers")?;
     let check = arguments.flag("--check");
     arguments.none_left()?;
     let result = if check {
@@ -99,6 +119,10 @@ impl Arguments {
         }
         self.0.remove(place);
         Ok(Some(self.0.remove(place)))
+    }
+
+    fn needed(&mut self, name: &str) -> Result<String, String> {
+        self.value(name)?.ok_or(format!("{name} is missing"))
     }
 
     fn number(&mut self, name: &str, usual: u64) -> Result<u64, String> {

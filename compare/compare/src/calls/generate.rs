@@ -3,6 +3,7 @@
 use oracle::{explore, Asked};
 
 use super::answers::Answers;
+use super::build::READ;
 use super::case::Case;
 use crate::random::Random;
 
@@ -14,13 +15,17 @@ pub const LISTED: [u32; 21] = [
 /// Calls that move bytes, which have the most ways to go.
 const TRANSFERS: [u32; 10] = [7, 7, 9, 10, 11, 12, 25, 26, 27, 28];
 
-const UNLISTED: [u32; 8] = [0, 16, 23, 30, 31, 32, 0x107, u32::MAX];
+pub const UNLISTED: [u32; 8] = [0, 16, 23, 30, 31, 32, 0x107, u32::MAX];
 
-const READ: u32 = 0x1_0000;
-
-/// A call of which the answers are as the driver asks for them, and perhaps a few more.
 pub fn case(random: &mut Random) -> Case {
-    let (asked, buffer) = described(random);
+    let mut case = described(random);
+    case.answers = answers(&case, random);
+    case
+}
+
+/// Answers as the driver asks for them, and perhaps a few more.
+pub fn answers(case: &Case, random: &mut Random) -> Vec<u32> {
+    let Case { asked, buffer, .. } = case;
     let mut answers = Vec::new();
     if asked.refusal(buffer.len()).is_none() {
         let mut choices = Answers::new(asked.call, buffer.len(), random.split());
@@ -30,15 +35,11 @@ pub fn case(random: &mut Random) -> Case {
     if random.up_to(1) == 0 {
         answers.extend((0..random.up_to(3)).map(|_| random.word()));
     }
-    Case {
-        asked,
-        buffer,
-        answers,
-    }
+    answers
 }
 
-/// A call and its buffer.
-fn described(random: &mut Random) -> (Asked, Vec<u8>) {
+/// A call and its buffer, without answers.
+pub fn described(random: &mut Random) -> Case {
     let mut asked = Asked {
         call: number(random),
         ..Default::default()
@@ -54,7 +55,11 @@ fn described(random: &mut Random) -> (Asked, Vec<u8>) {
     if length < 2_000 && random.up_to(3) != 0 {
         buffer.fill_with(|| random.word() as u8);
     }
-    (asked, buffer)
+    Case {
+        asked,
+        buffer,
+        answers: Vec::new(),
+    }
 }
 
 fn number(random: &mut Random) -> u32 {

@@ -1,8 +1,8 @@
 //! The Rattle program `replay`, which drives described calls.
 
-use std::io::{self, Write};
-use std::process::{Command, Stdio};
-use std::thread;
+use std::io;
+
+use crate::process;
 
 pub struct Program<'a> {
     path: &'a str,
@@ -16,20 +16,9 @@ impl<'a> Program<'a> {
     /// What the program prints of each call of a text. What it prints after them, as of a text that
     /// it does not understand, counts as one call more, unless it is the right number of calls.
     pub fn replay(&self, text: &str) -> io::Result<Vec<String>> {
-        let mut child = Command::new(self.path)
-            .stdin(Stdio::piped())
-            .stdout(Stdio::piped())
-            .spawn()
-            .map_err(|error| io::Error::other(format!("{}: {error}", self.path)))?;
-        let mut stdin = child.stdin.take().expect("it is piped");
-        let output = thread::scope(|scope| {
-            // The program reads it all before it prints, but may end before.
-            scope.spawn(move || stdin.write_all(text.as_bytes()));
-            child.wait_with_output()
-        })?;
-        if !output.status.success() {
-            let said = format!("{} ended with {}", self.path, output.status);
-            return Err(io::Error::other(said));
+        let output = process::run(self.path, text.as_bytes())?;
+        if let Some(failure) = process::failure(&output) {
+            return Err(io::Error::other(format!("{}: {failure}", self.path)));
         }
         Ok(calls(&String::from_utf8_lossy(&output.stdout)))
     }

@@ -1,8 +1,7 @@
 //! The fixed sample of calls that is stored: each listed call in several ways, each outcome, each
 //! refusal that a begin gives, and the lengths around a block.
 
-use oracle::Asked;
-
+use super::build::*;
 use super::case::Case;
 use super::chip::*;
 use super::expected;
@@ -10,9 +9,6 @@ use super::expected;
 const HOW: &str =
     "# Described calls, as crates/replay/src/text.rt has them; made in compare/ by:\n\
                    # cargo run --release --offline -- store-calls --inputs FILE --answers FILE\n";
-
-/// An operation that reads.
-const READ: u32 = 0x1_0000;
 
 /// The text of the calls and that of the expected answers.
 pub fn texts() -> (String, String) {
@@ -22,13 +18,13 @@ pub fn texts() -> (String, String) {
     for (comment, case) in &calls {
         inputs.push('\n');
         inputs.push_str(&case.text(comment));
-        answers.push_str(&expected::of(case).text);
+        answers.push_str(&expected::of(case));
     }
     answers.push_str(&format!("calls {}\n", calls.len()));
     (inputs, answers)
 }
 
-type Described = (&'static str, Case);
+pub type Described = (&'static str, Case);
 
 fn calls() -> Vec<Described> {
     [
@@ -43,96 +39,7 @@ fn calls() -> Vec<Described> {
     .concat()
 }
 
-fn call(number: u32) -> Case {
-    Case {
-        asked: Asked {
-            call: number,
-            ..Default::default()
-        },
-        ..Default::default()
-    }
-}
-
-fn transaction(operations: &[u32]) -> Case {
-    let mut case = call(7);
-    case.asked.address = 0x50;
-    case.asked.operations = operations.to_vec();
-    case
-}
-
-impl Case {
-    fn asking(mut self, change: impl FnOnce(&mut Asked)) -> Self {
-        change(&mut self.asked);
-        self
-    }
-
-    fn ten_bit(self, address: u32) -> Self {
-        self.asking(|asked| {
-            asked.ten_bit = true;
-            asked.address = address;
-        })
-    }
-
-    fn listening(self, kind: u32) -> Self {
-        self.asking(|asked| asked.listen = kind)
-    }
-
-    fn timed(self, timingr: u32) -> Self {
-        self.asking(|asked| asked.timingr = timingr)
-    }
-
-    fn owning(self, address: u32, secondary: Option<u32>, mask: Option<u32>) -> Self {
-        self.asking(|asked| {
-            asked.configured = true;
-            asked.own_address = address;
-            asked.secondary_address = secondary;
-            asked.mask = mask;
-        })
-    }
-
-    fn owning_ten_bit(self, address: u32, mask: Option<u32>) -> Self {
-        let case = self.owning(address, None, mask);
-        case.asking(|asked| asked.own_ten_bit = true)
-    }
-
-    fn bytes(mut self, bytes: &[u8]) -> Self {
-        self.buffer = bytes.to_vec();
-        self
-    }
-
-    fn zeros(self, count: usize) -> Self {
-        self.bytes(&vec![0; count])
-    }
-
-    fn answers(mut self, answers: &[u32]) -> Self {
-        self.answers.extend(answers);
-        self
-    }
-
-    /// Bytes that come in, each with its RXNE.
-    fn receives(mut self, count: u32) -> Self {
-        self.answers.extend((0..count).flat_map(|i| [RXNE, i]));
-        self
-    }
-
-    /// So many bytes are asked for.
-    fn asks_for(mut self, count: usize) -> Self {
-        self.answers.extend(vec![TXIS | TXE; count]);
-        self
-    }
-
-    /// A NACK that finds nothing to flush.
-    fn nacks(self) -> Self {
-        self.answers(&[NACKF | TXE, TXE, TXE])
-    }
-}
-
-/// Bytes that can be told from their neighbours.
-fn counted(count: usize) -> Vec<u8> {
-    (0..count).map(|i| (i % 251) as u8 + 1).collect()
-}
-
-fn set_up() -> Vec<Described> {
+pub fn set_up() -> Vec<Described> {
     let timing = 0x60FB_1C39;
     vec![
         ("a controller alone", call(1).timed(timing).answers(&[1])),
@@ -199,7 +106,7 @@ fn set_up() -> Vec<Described> {
     ]
 }
 
-fn transactions() -> Vec<Described> {
+pub fn transactions() -> Vec<Described> {
     vec![
         (
             "two bytes out, as document 01 prints it",
@@ -283,16 +190,7 @@ fn transactions() -> Vec<Described> {
     ]
 }
 
-const MATCH: u32 = addcode(0x50) | ADDR | TXE;
-
-/// A ten-bit header.
-const HEADER: u32 = addcode(0x7A) | ADDR | TXE;
-
-/// The answers of a manual event after its status word.
-const MANUAL: [u32; 2] = [0x1_0001, 0x01FF_8000];
-const MANUAL_WRITE: [u32; 4] = [0x1_0001, 0x01FF_8000, 1, 0x8000];
-
-fn events() -> Vec<Described> {
+pub fn events() -> Vec<Described> {
     vec![
         (
             "the controller reads",
@@ -347,7 +245,7 @@ fn events() -> Vec<Described> {
     ]
 }
 
-fn receptions() -> Vec<Described> {
+pub fn receptions() -> Vec<Described> {
     vec![
         (
             "two bytes in; a NACK is not looked at",
@@ -376,7 +274,7 @@ fn receptions() -> Vec<Described> {
     ]
 }
 
-fn transmissions() -> Vec<Described> {
+pub fn transmissions() -> Vec<Described> {
     vec![
         (
             "a byte out, filled with zeros, and a byte flushed",
@@ -409,7 +307,7 @@ fn transmissions() -> Vec<Described> {
     ]
 }
 
-fn blocks() -> Vec<Described> {
+pub fn blocks() -> Vec<Described> {
     let second = |case: Case| case.answers(&[0x00FF_0000]);
     vec![
         ("manual: no byte in", call(25).answers(&[1])),
@@ -558,6 +456,7 @@ fn refusals() -> Vec<Described> {
 #[cfg(test)]
 mod tests {
     use super::super::generate::LISTED;
+    use super::super::run::Run;
     use super::*;
     use std::collections::BTreeSet;
 
@@ -572,10 +471,7 @@ mod tests {
         for number in LISTED {
             assert!(accepted(number) >= 2, "call {number}");
         }
-        let ends: BTreeSet<&str> = calls
-            .iter()
-            .map(|(_, case)| expected::of(case).word)
-            .collect();
+        let ends: BTreeSet<&str> = calls.iter().map(|(_, case)| Run::of(case).word).collect();
         assert_eq!(ends.len(), 12);
         let refusals: BTreeSet<u32> = calls
             .iter()
@@ -594,7 +490,7 @@ mod tests {
         for (comment, case) in calls() {
             let expected = expected::of(&case);
             let used = format!(" {} ", case.answers.len());
-            let line = expected.text.lines().next().unwrap();
+            let line = expected.lines().next().unwrap();
             let unread = line.ends_with(" 0 0");
             assert!(unread || line.contains(&used), "{comment}: {line}");
         }

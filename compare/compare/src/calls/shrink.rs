@@ -5,42 +5,16 @@ use std::io;
 use oracle::Asked;
 
 use super::case::Case;
-
-/// How many calls are tried at most.
-const TRIES: usize = 3_000;
+use crate::shrink;
 
 /// The smallest call, of those tried, that differs.
 pub fn smallest(case: &Case, differs: impl Fn(&Case) -> io::Result<bool>) -> io::Result<Case> {
-    let mut smallest = case.clone();
-    let mut tries = 0;
-    loop {
-        let before = smallest.clone();
-        let mut place = 0;
-        while let Some(change) = changes(&smallest).get(place) {
-            let mut candidate = smallest.clone();
-            change.make(&mut candidate);
-            if candidate == smallest {
-                place += 1;
-                continue;
-            }
-            tries += 1;
-            if tries > TRIES {
-                return Ok(smallest);
-            }
-            if differs(&candidate)? {
-                smallest = candidate;
-            } else {
-                place += 1;
-            }
-        }
-        if smallest == before {
-            return Ok(smallest);
-        }
-    }
+    let smaller = |case: &Case, place: usize| Some(changes(case).get(place)?.made(case));
+    shrink::smallest(case, smaller, differs)
 }
 
 /// A way to make a call smaller.
-enum Change {
+pub enum Change {
     CutAnswers(usize),
     CutBytes(usize),
     ClearBytes,
@@ -68,7 +42,7 @@ const WORDS: [Clear; 9] = [
 ];
 
 /// What may be tried, that with much effect first.
-fn changes(case: &Case) -> Vec<Change> {
+pub fn changes(case: &Case) -> Vec<Change> {
     let answers = case.answers.len();
     let bytes = case.buffer.len();
     let mut changes = vec![Change::ClearBytes, Change::ClearList];
@@ -94,6 +68,13 @@ fn changes(case: &Case) -> Vec<Change> {
 }
 
 impl Change {
+    /// The call after the change.
+    pub fn made(&self, case: &Case) -> Case {
+        let mut changed = case.clone();
+        self.make(&mut changed);
+        changed
+    }
+
     fn make(&self, case: &mut Case) {
         match *self {
             Change::CutAnswers(kept) => case.answers.truncate(kept),

@@ -1,0 +1,124 @@
+//! `compare bench` and `compare store-bench`: bench files, and what the bench program prints of them
+//! beside what the driver does.
+
+mod entry;
+mod generate;
+mod meaning;
+mod sample;
+mod shrink;
+pub mod store;
+mod text;
+
+use std::io;
+
+use crate::calls::tally::Tally;
+use crate::difference;
+use crate::process;
+use crate::random::Random;
+
+/// How many words, and how many lines, are shown of a difference at most.
+const SHOWN: usize = 200;
+
+/// Compares random files. True if all went well.
+pub fn compare(files: u64, seed: u64, program: &str) -> io::Result<bool> {
+    println!("bench: {files} random files from seed {seed}");
+    let mut random = Random::new(seed);
+    let mut counts = Counts::default();
+    for _ in 0..files {
+        let file = generate::file(&mut random);
+        let expected = text::of(&file);
+        if given(program, &file)? != expected.text.as_bytes() {
+            show(&file, program)?;
+            return Ok(false);
+        }
+        counts.count(&expected);
+    }
+    counts.print();
+    println!("bench: {files} files compared, 0 differences");
+    let all = files < 5_000 || counts.all_reached();
+    if !all {
+        println!("bench: a call, an outcome, a refusal or the known difference was not reached");
+    }
+    Ok(all)
+}
+
+/// What the program prints, and says by its status where that is no success.
+fn given(program: &str, file: &[u8]) -> io::Result<Vec<u8>> {
+    let output = process::run(program, file)?;
+    let failure = process::failure(&output);
+    let mut text = output.stdout;
+    text.extend(failure.unwrap_or_default().bytes());
+    Ok(text)
+}
+
+/// Shows a difference by the smallest file that was found to have one.
+fn show(file: &[u8], program: &str) -> io::Result<()> {
+    let smallest = shrink::smallest(file, |file| {
+        Ok(given(program, file)? != text::of(file).text.as_bytes())
+    })?;
+    let (words, rest) = entry::words(&smallest);
+    let shown: Vec<String> = words.iter().take(SHOWN).map(shown).collect();
+    println!("bench: a difference is shown by a file of the words");
+    println!("\n{}", shown.join(", "));
+    if words.len() > SHOWN {
+        println!("and {} more", words.len() - SHOWN);
+    }
+    if !rest.is_empty() {
+        println!("and the bytes {rest:?}");
+    }
+    let expected = text::of(&smallest).text;
+    let given = given(program, &smallest)?;
+    let given = String::from_utf8_lossy(&given);
+    println!("\nexpected\n\n{}\ngiven\n\n{}", cut(&expected), cut(&given));
+    difference::print(&expected, &given);
+    Ok(())
+}
+
+/// A word as document 01 writes it.
+fn shown(word: &u32) -> String {
+    match word {
+        0..=9 => word.to_string(),
+        _ => format!("0x{word:X}"),
+    }
+}
+
+/// A text's first lines.
+fn cut(text: &str) -> String {
+    text.split_inclusive('\n').take(SHOWN).collect()
+}
+
+/// What was compared.
+#[derive(Default)]
+struct Counts {
+    files: u64,
+    refused: u64,
+    empty: u64,
+    calls: Tally,
+}
+
+impl Counts {
+    fn count(&mut self, printed: &text::Printed) {
+        self.files += 1;
+        match &printed.calls {
+            None => self.refused += 1,
+            Some(calls) => {
+                self.empty += u64::from(calls.is_empty());
+                calls.iter().for_each(|run| self.calls.count(run));
+            }
+        }
+        if self.files.is_multiple_of(2_000) {
+            eprintln!("bench: {} files", self.files);
+        }
+    }
+
+    fn print(&self) {
+        self.calls.print();
+        println!("files refused as 14: {}", self.refused);
+        println!("files without a call: {}", self.empty);
+        println!("calls: {}", self.calls.runs);
+    }
+
+    fn all_reached(&self) -> bool {
+        self.refused > 0 && self.empty > 0 && self.calls.all_reached()
+    }
+}

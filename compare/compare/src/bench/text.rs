@@ -1,0 +1,119 @@
+//! What the bench program has to print of a file.
+
+use super::meaning;
+use crate::calls::run::Run;
+
+/// The text of a file that is refused.
+const REFUSED: &str = "file 14\n";
+
+pub struct Printed {
+    pub text: String,
+    /// The calls, unless the file is refused.
+    pub calls: Option<Vec<Run>>,
+}
+
+pub fn of(file: &[u8]) -> Printed {
+    let Some(cases) = meaning::read(file) else {
+        return Printed {
+            text: REFUSED.to_string(),
+            calls: None,
+        };
+    };
+    let calls: Vec<Run> = cases.iter().map(Run::of).collect();
+    let mut text = String::new();
+    for run in &calls {
+        run.write_accesses(&mut text);
+        if !run.is_refused() && shows_buffer(run.call) {
+            run.write_buffer(&mut text);
+        }
+    }
+    Printed {
+        text,
+        calls: Some(calls),
+    }
+}
+
+/// Whether a call may have changed its buffer.
+fn shows_buffer(number: u32) -> bool {
+    matches!(meaning::kind(number), 7 | 9 | 11)
+}
+
+#[cfg(test)]
+mod tests {
+    use super::super::entry::bytes;
+    use super::*;
+
+    fn printed(words: &[u32]) -> String {
+        of(&bytes(words)).text
+    }
+
+    #[test]
+    fn the_run_of_document_01() {
+        let words = [
+            1,
+            7,
+            0x50,
+            4,
+            5,
+            1,
+            2,
+            0x12,
+            0x34,
+            1,
+            0x0202_00A0,
+            3,
+            3,
+            0x21,
+        ];
+        let expected = "7 done 0 5 9\n\
+                        w 04 020220A0\n\
+                        r 18 00000001\n\
+                        r 04 020200A0\n\
+                        r 18 00000003\n\
+                        w 28 00000012\n\
+                        r 18 00000003\n\
+                        w 28 00000034\n\
+                        r 18 00000021\n\
+                        w 1C 00000020\n\
+                        b 1234\n";
+        assert_eq!(printed(&words), expected);
+    }
+
+    #[test]
+    fn no_calls_and_no_file() {
+        assert_eq!(printed(&[0]), "");
+        assert_eq!(printed(&[]), "file 14\n");
+        assert!(of(&[]).calls.is_none());
+    }
+
+    #[test]
+    fn calls_stand_one_after_the_other() {
+        let words = [
+            5, 16, 0, 0, 1, 25, 0, 0, 0, 9, 0, 0, 0, 7, 1, 1, 0, 9, 2, 0, 2, 5, 0, 4, 0xAB,
+        ];
+        let expected = "16 refused 12 0 0\n\
+                        25 done 0 0 0\n\
+                        b\n\
+                        9 refused 11 0 0\n\
+                        7 done 0 0 0\n\
+                        b\n\
+                        9 waiting 0 2 2\n\
+                        r 18 00000004\n\
+                        r 24 000000AB\n\
+                        b AB00\n";
+        assert_eq!(printed(&words), expected);
+    }
+
+    /// Where a mistake stands in the file does not matter: nothing is printed before it is found.
+    #[test]
+    fn a_refused_file_prints_nothing_else() {
+        assert_eq!(printed(&[2, 6, 0, 0, 0, 6, 1, 0, 0]), "file 14\n");
+        assert_eq!(printed(&[2, 6, 0, 0, 0, 6, 0, 0, 0]).lines().count(), 2);
+    }
+
+    #[test]
+    fn buffers_that_are_not_shown() {
+        let outputs = [10, 12, 26, 28].map(|number| printed(&[1, number, 0, 1, 0, 0x12]));
+        assert!(outputs.iter().all(|text| !text.contains('b')));
+    }
+}

@@ -1,0 +1,127 @@
+//! What a call comes to: the driver's run, or document 01's refusal; and its text, as far as all
+//! programs print it alike.
+
+use std::fmt::Write;
+
+use oracle::{Access, Outcome, PanicKind};
+
+use super::case::Case;
+
+pub struct Run {
+    pub call: u32,
+    /// Document 01's word of the outcome.
+    pub word: &'static str,
+    pub value: u32,
+    /// The driver panics where document 01 gives a count.
+    pub panics: bool,
+    /// Answers taken.
+    pub used: usize,
+    pub log: Vec<Access>,
+    pub buffer: Vec<u8>,
+}
+
+impl Run {
+    pub fn of(case: &Case) -> Run {
+        match case.asked.refusal(case.buffer.len()) {
+            Some(refusal) => Run {
+                call: case.asked.call,
+                word: "refused",
+                value: refusal,
+                panics: false,
+                used: 0,
+                log: Vec::new(),
+                buffer: case.buffer.clone(),
+            },
+            None => Run::of_accepted(case),
+        }
+    }
+
+    fn of_accepted(case: &Case) -> Run {
+        let mut buffer = case.buffer.clone();
+        let run = oracle::run(&case.asked.description(), &mut buffer, &case.answers);
+        let (word, value, panics) = match &run.outcome {
+            Outcome::Panicked(panic) if panic.kind == PanicKind::NackAtOnce => {
+                ("done", whole_blocks(&run.log), true)
+            }
+            Outcome::Panicked(panic) => panic!("{}: {}", case.text(""), panic.message),
+            outcome => (outcome.word(), run.value, false),
+        };
+        Run {
+            call: case.asked.call,
+            word,
+            value,
+            panics,
+            used: run.used,
+            log: run.log,
+            buffer,
+        }
+    }
+
+    pub fn is_refused(&self) -> bool {
+        self.word == "refused"
+    }
+
+    /// The line of the call and those of its accesses.
+    pub fn write_accesses(&self, text: &mut String) {
+        let accesses = self.log.len();
+        let (call, word, value, used) = (self.call, self.word, self.value, self.used);
+        writeln!(text, "{call} {word} {value} {used} {accesses}").unwrap();
+        for &[code, value] in &self.log {
+            let kind = if code < 0x100 { 'r' } else { 'w' };
+            writeln!(text, "{kind} {:02X} {value:08X}", code & 0xFF).unwrap();
+        }
+    }
+
+    /// The line of the buffer.
+    pub fn write_buffer(&self, text: &mut String) {
+        text.push('b');
+        if !self.buffer.is_empty() {
+            text.push(' ');
+        }
+        for byte in &self.buffer {
+            write!(text, "{byte:02X}").unwrap();
+        }
+        text.push('\n');
+    }
+}
+
+/// The bytes of the blocks that were put out whole before a NACK at byte 0 of the next: document 01
+/// counts 0 for that one. The flush may have put out one byte more.
+fn whole_blocks(log: &[Access]) -> u32 {
+    let put = log.iter().filter(|access| access[0] == 0x128).count() as u32;
+    put / 255 * 255
+}
+
+#[cfg(test)]
+mod tests {
+    use super::*;
+    use oracle::Asked;
+
+    #[test]
+    fn a_refused_call() {
+        let run = Run::of(&Case::default());
+        assert!(run.is_refused());
+        assert_eq!((run.value, run.used, run.log.len()), (12, 0, 0));
+    }
+
+    #[test]
+    fn a_nack_at_once_counts_the_blocks_before() {
+        let case = |flush| Case {
+            asked: Asked {
+                call: 26,
+                ..Default::default()
+            },
+            buffer: vec![7; 511],
+            answers: [0]
+                .into_iter()
+                .chain([2; 255])
+                .chain([0, 0x11, flush, 1])
+                .collect(),
+        };
+        for flush in [1, 3] {
+            let run = Run::of(&case(flush));
+            assert!(run.panics);
+            assert_eq!((run.word, run.value), ("done", 255));
+        }
+    }
+}
