@@ -7,20 +7,14 @@ use lib.Dec.{eqb}
 use lib.ListN.{length, getD, take, drop}
 use Rattle.calls.specs.Advances.{isRefusal}
 use Rattle.calls.specs.Refusals.{checkOf}
-use Rattle.calls.specs.Run.{Run, wordsOf, begunOf, runOf}
+use Rattle.calls.specs.Run.{Run, wordsOf}
 use Rattle.calls.specs.Whole.{WholeCall}
 use Rattle.calls.specs.declared.Description.{Description}
-use Rattle.benchfile.specs.Calls.{plain, descriptionOf, operationsOf, bufferOf}
-use Rattle.benchfile.specs.File.{wordsIn, fileWrong}
+use Rattle.benchfile.specs.Calls.{plain, descriptionOf, operationsOf, wholeBuffer}
+use Rattle.benchfile.specs.File.{wordsIn, sizeWrong, wordsWrong, fileWrong}
+use Rattle.drive.specs.Drive.{runFor}
 use Rattle.lines.specs.Lines.{callLine, accessLines, bufferLine, refusalLine}
-
--- The run of a call: one advance over a log of so many places, which no bench file fills. So it is the uncut run, to its end
--- (`EveryWhole` below).
-abbrev pub places : ℕ
-places = 131072
-
-abbrev pub runFor : Description → List ℕ → List ℕ → List ℕ → Run
-runFor d ops b l = runOf d ops places (begunOf d ops (length b) .saved) b l
+use Rattle.bench.specs.declared.call.Told.{Told}
 
 -- a call's accesses and then, for 7, 9 and 11 unless refused, its buffer; 25 and 27 are printed like 9 and 11
 unfoldable pub showsBuffer : ℕ → Bool
@@ -32,42 +26,55 @@ bufferText n R = cond (showsBuffer n && not (isRefusal (R .report))) (bufferLine
 abbrev pub runText : ℕ → Run → List ℕ
 runText n R = accessLines (wordsOf (R .entries)) ++ bufferText n R
 
+-- what its line says of a run
+abbrev pub toldBy : Run → Told
+toldBy R = record { report = R .report; used = R .used; accesses = length (R .entries) }
+
 -- a call, with its line first
 abbrev pub callText : ℕ → Run → List ℕ
 callText n R = callLine n (R .report) (R .used) (length (R .entries)) ++ runText (plain n) R
 
-abbrev pub runIn : ℕ → ℕ → List ℕ → List ℕ → Run
-runIn n a head answers = runFor (descriptionOf n a head) (operationsOf n head) (bufferOf n a head) answers
+-- the buffer of a call that is read like n
+abbrev pub lentBuffer : ℕ → ℕ → List ℕ → List ℕ
+lentBuffer n a head = take 65536 (wholeBuffer n a head)
 
--- n calls, by the rows of the table and their bodies
+abbrev pub runIn : ℕ → ℕ → List ℕ → List ℕ → Run
+runIn n a head answers = runFor (descriptionOf n a head) (operationsOf n head) (lentBuffer (plain n) a head) answers
+
+-- the call of a table's first row, its body first in `bodies`, head before answers
+abbrev pub rowText : List ℕ → List ℕ → List ℕ
+rowText rows bodies =
+    let head : ℕ = getD rows 2 0 in
+    callText (getD rows 0 0) (runIn (getD rows 0 0) (getD rows 1 0) (take head bodies) (take (getD rows 3 0) (drop head bodies)))
+
+abbrev pub bodySize : List ℕ → ℕ
+bodySize rows = getD rows 2 0 + getD rows 3 0
+
+-- n calls in turn
 unfoldable pub callsText : ℕ → List ℕ → List ℕ → List ℕ
 callsText zero rows bodies = []
-callsText (suc n) rows bodies =
-    let head : ℕ = getD rows 2 0 in
-    let answers : ℕ = getD rows 3 0 in
-    let call : ℕ = getD rows 0 0 in
-    callText call (runIn call (getD rows 1 0) (take head bodies) (take answers (drop head bodies)))
-    ++ callsText n (drop 4 rows) (drop (head + answers) bodies)
+callsText (suc n) rows bodies = rowText rows bodies ++ callsText n (drop 4 rows) (drop (bodySize rows) bodies)
 
 -- the words after the count n: the table of n rows, then the bodies
 abbrev pub tableText : ℕ → List ℕ → List ℕ
 tableText n words = callsText n words (drop (4 * n) words)
 
-unfoldable pub fileText : List ℕ → List ℕ
-fileText file = cond (fileWrong file) refusalLine (tableText (getD (wordsIn file) 0 0) (drop 1 (wordsIn file)))
+unfoldable pub wordsText : List ℕ → List ℕ
+wordsText words = cond (wordsWrong words) refusalLine (tableText (getD words 0 0) (drop 1 words))
 
--- ---- Each run that is printed is the whole uncut run.
+unfoldable pub fileText : List ℕ → List ℕ
+fileText file = cond (sizeWrong (length file)) refusalLine (wordsText (wordsIn file))
+
+-- ---- Each run that is printed is the whole uncut run: its log did not fill.
 abbrev pub CallsWhole : ℕ → List ℕ → List ℕ → Type 0
 CallsWhole zero rows bodies = Unit {0}
 CallsWhole (suc n) rows bodies =
-    let head : ℕ = getD rows 2 0 in
-    let answers : ℕ = getD rows 3 0 in
-    let call : ℕ = getD rows 0 0 in
-    let d : Description = descriptionOf call (getD rows 1 0) (take head bodies) in
-    let ops : List ℕ = operationsOf call (take head bodies) in
-    let b : List ℕ = bufferOf call (getD rows 1 0) (take head bodies) in
-    let l : List ℕ = take answers (drop head bodies) in
-    WholeCall (checkOf d ops (length b)) d ops b l (runFor d ops b l) × CallsWhole n (drop 4 rows) (drop (head + answers) bodies)
+    let head : List ℕ = take (getD rows 2 0) bodies in
+    let d : Description = descriptionOf (getD rows 0 0) (getD rows 1 0) head in
+    let ops : List ℕ = operationsOf (getD rows 0 0) head in
+    let b : List ℕ = lentBuffer (plain (getD rows 0 0)) (getD rows 1 0) head in
+    let l : List ℕ = take (getD rows 3 0) (drop (getD rows 2 0) bodies) in
+    WholeCall (checkOf d ops (length b)) d ops b l (runFor d ops b l) × CallsWhole n (drop 4 rows) (drop (bodySize rows) bodies)
 
 abbrev pub EveryWhole : List ℕ → Type 0
 EveryWhole file =

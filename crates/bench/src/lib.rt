@@ -5,7 +5,6 @@ ghost use Rattle.bench.specs.Text.{fileText, EveryWhole};
 use window::Place;
 
 mod call;
-mod drive;
 mod file;
 
 // Fills `out` with the text of a file from its byte `from` on, and says how many bytes that gives: fewer than there is room for

@@ -1,5 +1,8 @@
 // The buffer of a call, laid out and cut to the room that there is.
 ghost use mathlib.Core.Path.{_≡_};
+ghost use mathlib.Core.Bool.{cond};
+ghost use lib.ListN.{take, replicate};
+ghost use Rattle.calls.specs.Pieces.{pieceOf};
 ghost use Rattle.window.specs.Window.{asShown, windowOf, laid, emitOf};
 ghost use Rattle.benchfile.specs.Calls.{bytesIn, afterList, bytesOf, wholeBuffer};
 use crate::head;
@@ -18,19 +21,26 @@ fn put_bytes(p: Place, words: &[u32], out: &mut [u8]) -> Place
     q
 }
 
+// The bytes of an operation: zeros, or the first of those that are written.
+fn put_operation(p: Place, o: u32, bytes: &[u32], out: &mut [u8]) -> Place
+    ensures { λ r. ⌜ laid r (now (out .exit)) ≡ cond (pieceOf o .reads) (emitOf (replicate (pieceOf o .size) 0) (laid p (now (out .entry)))) (emitOf (bytesIn (take (pieceOf o .size) (now (bytes .entry)))) (laid p (now (out .entry)))) ⌝ }
+{
+    let size = head::length(o) as usize;
+    if head::is_read(o) {
+        return window::put_zeros(p, size, out);
+    }
+    put_bytes(p, first(bytes, size), out)
+}
+
 fn put_operations(p: Place, ops: &[u32], bytes: &[u32], out: &mut [u8]) -> Place
     ensures { λ r. ⌜ laid r (now (out .exit)) ≡ emitOf (bytesOf (now (ops .entry)) (bytesIn (now (bytes .entry)))) (laid p (now (out .entry))) ⌝ }
 {
     let mut q = p;
     let mut rest = bytes;
     for i in 0..ops.len() {
-        let size = head::length(ops[i]) as usize;
-        if head::is_read(ops[i]) {
-            q = window::put_zeros(q, size, out);
-        } else {
-            q = put_bytes(q, first(rest, size), out);
-            rest = after(rest, size);
-        }
+        q = put_operation(q, ops[i], rest, out);
+        let others = after(rest, head::write_size(ops[i]));
+        rest = others;
     }
     q
 }
@@ -45,14 +55,16 @@ fn after_list(head: &[u32]) -> &[u32]
 fn put_buffer(p: Place, n: u32, a: u32, head: &[u32], out: &mut [u8]) -> Place
     ensures { λ r. ⌜ laid r (now (out .exit)) ≡ emitOf (wholeBuffer n a (now (head .entry))) (laid p (now (out .entry))) ⌝ }
 {
-    match n {
-        7 => put_operations(p, head::list(head), after_list(head), out),
-        9 => window::put_zeros(p, a as usize, out),
-        11 => window::put_zeros(p, a as usize, out),
-        10 => put_bytes(p, head, out),
-        12 => put_bytes(p, head, out),
-        _ => p,
+    if n == 7 {
+        return put_operations(p, head::list(head), after_list(head), out);
     }
+    if (n == 9) | (n == 11) {
+        return window::put_zeros(p, a as usize, out);
+    }
+    if (n == 10) | (n == 12) {
+        return put_bytes(p, head, out);
+    }
+    p
 }
 
 // Lays out the buffer of a call that is read like n, as far as there is room, and says how many bytes it has.

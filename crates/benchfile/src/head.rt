@@ -1,5 +1,6 @@
 // A call's number, argument and head words: whether they fit, and what they describe.
 ghost use mathlib.Core.Path.{_≡_};
+ghost use mathlib.Core.Bool.{cond};
 ghost use lib.Dec.{eqb};
 ghost use lib.ListN.{length};
 ghost use Rattle.calls.specs.Pieces.{pieceOf};
@@ -16,13 +17,16 @@ use timing::RawTimingr;
 pub fn plain(n: u32) -> u32
     ensures { λ r. ⌜ r ≡ Calls·plain n ⌝ }
 {
-    if 24 <= n && n <= 29 { n - 16 } else { n }
+    match n {
+        24..=29 => n - 16,
+        _ => n,
+    }
 }
 
 fn has_argument(n: u32) -> bool
     ensures { λ r. ⌜ r ≡ hasArgument n ⌝ }
 {
-    n == 4 || n == 5 || n == 9 || n == 11
+    (n == 4) | ((n == 5) | ((n == 9) | (n == 11)))
 }
 
 fn is_argument_wrong(n: u32, a: u32) -> bool
@@ -31,7 +35,7 @@ fn is_argument_wrong(n: u32, a: u32) -> bool
     if n == 7 {
         return a > 131_071;
     }
-    !has_argument(n) && a != 0
+    !has_argument(n) & (a != 0)
 }
 
 fn has_wide(words: &[u32]) -> bool
@@ -57,7 +61,9 @@ pub fn length(o: u32) -> u32
     fields::get(o, 0, 16)
 }
 
-fn write_size(o: u32) -> usize {
+pub fn write_size(o: u32) -> usize
+    ensures { λ r. ⌜ r ≡ cond (pieceOf o .reads) 0 (pieceOf o .size) ⌝ }
+{
     if is_read(o) { 0 } else { length(o) as usize }
 }
 
@@ -79,29 +85,20 @@ fn has_write_bytes(ops: &[u32], n: usize) -> bool
 fn is_list_wrong(k: usize, words: &[u32]) -> bool
     ensures { λ r. ⌜ r ≡ listWrong k (now (words .entry)) ⌝ }
 {
-    if words.len() < k {
-        return true;
-    }
     let bytes = after(words, k);
-    if !has_write_bytes(first(words, k), bytes.len()) {
-        return true;
-    }
-    has_wide(bytes)
+    (words.len() < k) | (!has_write_bytes(first(words, k), bytes.len()) | has_wide(bytes))
 }
 
 fn is_transaction_wrong(head: &[u32]) -> bool
     ensures { λ r. ⌜ r ≡ transactionWrong (now (head .entry)) ⌝ }
 {
-    if head.len() == 0 {
-        return true;
-    }
-    is_list_wrong(head[0] as usize, after(head, 1))
+    (head.len() == 0) | is_list_wrong(word(head, 0) as usize, after(head, 1))
 }
 
 fn is_config_wrong(size: usize, i: usize, head: &[u32]) -> bool
     ensures { λ r. ⌜ r ≡ configWrong size i (now (head .entry)) ⌝ }
 {
-    head.len() != size || word(head, i) > 1
+    (head.len() != size) | (word(head, i) > 1)
 }
 
 fn is_head_wrong(n: u32, head: &[u32]) -> bool
@@ -111,7 +108,7 @@ fn is_head_wrong(n: u32, head: &[u32]) -> bool
         7 => is_transaction_wrong(head),
         10 => has_wide(head),
         12 => has_wide(head),
-        1 => head.len() != 1 && is_config_wrong(5, 2, head),
+        1 => (head.len() != 1) & is_config_wrong(5, 2, head),
         2 => is_config_wrong(5, 2, head),
         3 => is_config_wrong(4, 1, head),
         _ => head.len() != 0,
@@ -122,7 +119,7 @@ pub fn is_call_wrong(n: u32, a: u32, head: &[u32]) -> bool
     ensures { λ r. ⌜ r ≡ callWrong n a (now (head .entry)) ⌝ }
 {
     let like = plain(n);
-    is_argument_wrong(like, a) || is_head_wrong(like, head)
+    is_argument_wrong(like, a) | is_head_wrong(like, head)
 }
 
 fn config(words: &[u32]) -> TargetConfig

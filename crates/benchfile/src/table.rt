@@ -1,6 +1,11 @@
 // A file's words, its table of contents and its bodies.
 ghost use mathlib.Core.Path.{_≡_};
+ghost use Prim.Native.Nat.{_+_};
+ghost use mathlib.Core.Bool.{_||_};
+ghost use lib.Dec.{ltb};
+ghost use lib.ListN.{length, getD, take};
 ghost use Rattle.window.specs.Window.{asShown, windowOf};
+ghost use Rattle.benchfile.specs.Calls.{callWrong};
 ghost use Rattle.benchfile.specs.File.{wordOf, wordsIn, rowsWrong, tableWrong, wordsWrong, sizeWrong};
 use crate::head::is_call_wrong;
 use crate::part::after;
@@ -33,7 +38,22 @@ pub fn decode(file: &[u8], words: &mut [u32]) -> usize
 pub fn is_size_wrong(bytes: usize) -> bool
     ensures { λ r. ⌜ r ≡ sizeWrong bytes ⌝ }
 {
-    bytes > 65_536 || bytes % 4 != 0
+    (bytes > 65_536) | (bytes % 4 != 0)
+}
+
+// How many words the body of a row's call has.
+fn body_size(row: &[u32]) -> usize
+    ensures { λ r. ⌜ r ≡ getD (now (row .entry)) 2 0 + getD (now (row .entry)) 3 0 ⌝ }
+{
+    word(row, 2) as usize + word(row, 3) as usize
+}
+
+// Whether the bodies are too short for the first row, or its call is wrong.
+fn is_row_wrong(rows: &[u32], bodies: &[u32]) -> bool
+    ensures { λ r. ⌜ r ≡ (ltb (length (now (bodies .entry))) (getD (now (rows .entry)) 2 0 + getD (now (rows .entry)) 3 0) || callWrong (getD (now (rows .entry)) 0 0) (getD (now (rows .entry)) 1 0) (take (getD (now (rows .entry)) 2 0) (now (bodies .entry)))) ⌝ }
+{
+    let head = first(bodies, word(rows, 2) as usize);
+    (bodies.len() < body_size(rows)) | is_call_wrong(word(rows, 0), word(rows, 1), head)
 }
 
 fn is_rows_wrong(n: usize, rows: &[u32], bodies: &[u32]) -> bool
@@ -43,16 +63,13 @@ fn is_rows_wrong(n: usize, rows: &[u32], bodies: &[u32]) -> bool
     let mut table = rows;
     let mut rest = bodies;
     while 0 < left {
-        let head = word(table, 2) as usize;
-        let size = head + word(table, 3) as usize;
-        if rest.len() < size {
+        if is_row_wrong(table, rest) {
             return true;
         }
-        if is_call_wrong(word(table, 0), word(table, 1), first(rest, head)) {
-            return true;
-        }
-        table = after(table, 4);
-        rest = after(rest, size);
+        let others = after(table, 4);
+        let behind = after(rest, body_size(table));
+        table = others;
+        rest = behind;
         left -= 1;
     }
     rest.len() != 0
@@ -65,18 +82,12 @@ fn is_table_wrong(n: usize, words: &[u32]) -> bool
         return true;
     }
     let table = 4 * n;
-    if words.len() < table {
-        return true;
-    }
-    is_rows_wrong(n, words, after(words, table))
+    (words.len() < table) | is_rows_wrong(n, words, after(words, table))
 }
 
 // Whether a file's words are no bench file.
 pub fn is_wrong(words: &[u32]) -> bool
     ensures { λ r. ⌜ r ≡ wordsWrong (now (words .entry)) ⌝ }
 {
-    if words.len() == 0 {
-        return true;
-    }
-    is_table_wrong(words[0] as usize, after(words, 1))
+    (words.len() == 0) | is_table_wrong(word(words, 0) as usize, after(words, 1))
 }

@@ -8,8 +8,8 @@ use mathlib.Core.Path.{_≡_, refl, sym, ap, _∙_, subst⁻¹}
 use mathlib.Core.Bool.{Bool, true, false, cond, _&&_}
 use mathlib.Core.List.{List, [], _∷_, _++_}
 use lib.Dec.{T, eqb, leb, ltb}
-use lib.ListN.{length, getD, take, drop, set, replicate, length-set, length-take, drop-of-length-le}
-use lib.Seq.{drop-cons, take-nil, sets, sets-eq}
+use lib.ListN.{length, getD, take, drop, set, replicate, length-append, length-set, length-take, drop-of-length-le}
+use lib.Seq.{drop-cons, take-nil, sets, sets-eq, take-append-seam, length-take-le}
 use borrow.Author.Tests.{eqb-true, leb-true, le-leb, lt-ltb, le-ltb}
 use Rattle.window.specs.Window.{Laid, laid, startOf, full, putOf, emitOf, Shown, shownOf, windowOf, asShown}
 use Rattle.window.specs.declared.Place.{Place}
@@ -61,7 +61,7 @@ full-put b L h =
     let z = both-true (eqb (L .skip) 0) (leb (length (L .bytes)) (L .at)) h in
     sym (no-room b (L .skip) (L .at) (L .bytes) (omega (arith, eqb-true (L .skip) 0 (z .0))) (leb-true (length (L .bytes)) (L .at) (z .1)))
 
-full-emit : (t : List ℕ) (L : Laid) → full L ≡ true → emitOf t L ≡ L
+pub full-emit : (t : List ℕ) (L : Laid) → full L ≡ true → emitOf t L ≡ L
 unfolding emitOf
 full-emit [] L h = refl
 full-emit (b ∷ t) L h = ap (emitOf t) (full-put b L h) ∙ full-emit t L h
@@ -118,3 +118,18 @@ windowed from t bytes L e = ap (λ (M : Laid). asShown (M .at) (M .bytes)) e ∙
     go (suc from) (b ∷ t) =
         ap (λ (M : Laid). asShown (emitOf t M .at) (emitOf t M .bytes)) (sym (left-out b (suc from) 0 bytes (omega arith)))
         ∙ (let e : suc from - 1 ≡ from = omega arith in rw e (go from t))
+
+-- ---- a window at the text's start, filled: its first bytes are the text's
+module _ (t bytes : List ℕ) (n : ℕ) (bytes′ : List ℕ) (E : asShown n bytes′ ≡ windowOf 0 t bytes) where
+  pub front : take n bytes′ ≡ take (length bytes) t
+  unfolding windowOf
+  front =
+      rw (ap (λ (S : Shown). S .count) E, ap (λ (S : Shown). S .bytes) E)
+      (take-append-seam (take (length bytes) t) _)
+
+  pub room : n ≤ length bytes′
+  unfolding windowOf
+  room = rw (ap (λ (S : Shown). S .count) E, ap (λ (S : Shown). S .bytes) E, length-append (take (length bytes) t) (drop (length (take (length bytes) t)) bytes)) (omega arith)
+
+  pub counted : n ≡ length (take n bytes′)
+  counted = sym (length-take-le n bytes′ room)

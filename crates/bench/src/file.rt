@@ -1,0 +1,87 @@
+// The text of a file: of its calls in turn, or that it is none.
+ghost use mathlib.Core.Path.{_≡_};
+ghost use lib.ListN.{length};
+ghost use Rattle.window.specs.Window.{laid, emitOf};
+ghost use Rattle.bench.specs.Text.{rowText, bodySize, callsText, tableText, wordsText, fileText};
+use crate::call::put_call;
+use benchfile::after;
+use benchfile::first;
+use benchfile::word;
+use window::Place;
+
+// How many words a file may have at most.
+const WORDS: usize = 16384;
+
+// The call of a table's first row, its body first in `bodies`.
+fn put_row(p: Place, rows: &[u32], bodies: &[u32], out: &mut [u8]) -> Place
+    ensures { λ r. ⌜ laid r (now (out .exit)) ≡ emitOf (rowText (now (rows .entry)) (now (bodies .entry))) (laid p (now (out .entry))) ⌝ }
+{
+    let n = word(rows, 0);
+    let a = word(rows, 1);
+    let head = word(rows, 2) as usize;
+    let answers = word(rows, 3) as usize;
+    put_call(
+        p,
+        n,
+        a,
+        first(bodies, head),
+        first(after(bodies, head), answers),
+        out,
+    )
+}
+
+fn body_size(rows: &[u32]) -> usize
+    ensures { λ r. ⌜ r ≡ bodySize (now (rows .entry)) ⌝ }
+{
+    word(rows, 2) as usize + word(rows, 3) as usize
+}
+
+fn put_calls(p: Place, n: u32, rows: &[u32], bodies: &[u32], out: &mut [u8]) -> Place
+    ensures { λ r. ⌜ laid r (now (out .exit)) ≡ emitOf (callsText n (now (rows .entry)) (now (bodies .entry))) (laid p (now (out .entry))) ⌝ }
+{
+    let mut q = p;
+    let mut left = n;
+    let mut table = rows;
+    let mut rest = bodies;
+    while 0 < left {
+        q = put_row(q, table, rest, out);
+        let others = after(rest, body_size(table));
+        rest = others;
+        let more = after(table, 4);
+        table = more;
+        left -= 1;
+    }
+    q
+}
+
+fn put_table(p: Place, n: u32, words: &[u32], out: &mut [u8]) -> Place
+    ensures { λ r. ⌜ laid r (now (out .exit)) ≡ emitOf (tableText n (now (words .entry))) (laid p (now (out .entry))) ⌝ }
+{
+    put_calls(p, n, words, after(words, 4 * n as usize), out)
+}
+
+fn put_words(p: Place, words: &[u32], out: &mut [u8]) -> Place
+    ensures { λ r. ⌜ laid r (now (out .exit)) ≡ emitOf (wordsText (now (words .entry))) (laid p (now (out .entry))) ⌝ }
+{
+    if benchfile::is_wrong(words) {
+        return lines::put_refusal(p, out);
+    }
+    put_table(p, word(words, 0), after(words, 1), out)
+}
+
+fn room() -> [u32; WORDS]
+    ensures { λ r. ⌜ length r ≡ 16384 ⌝ }
+{
+    [0; WORDS]
+}
+
+pub fn put_file(p: Place, file: &[u8], out: &mut [u8]) -> Place
+    ensures { λ r. ⌜ laid r (now (out .exit)) ≡ emitOf (fileText (now (file .entry))) (laid p (now (out .entry))) ⌝ }
+{
+    if benchfile::is_size_wrong(file.len()) {
+        return lines::put_refusal(p, out);
+    }
+    let mut words = room();
+    let n = benchfile::decode(file, &mut words);
+    put_words(p, &words[..n], out)
+}

@@ -1,0 +1,102 @@
+-- The bytes of a buffer, put one after the other. Assumes nothing.
+use Prim.Native.Nat.{ℕ, zero, suc, _+_, _%_, _≤_, _<_}
+use native.Mathlib.Numerals.{add-one}
+use native.Mathlib.Omega.{arith}
+use mathlib.Core.Path.{_≡_, refl, sym, ap, _∙_}
+use mathlib.Core.Bool.{Bool, true, false, cond, _||_}
+use mathlib.Core.List.{List, [], _∷_, _++_}
+use lib.Dec.{eqb}
+use lib.ListN.{length, getD, take, drop, replicate, drop-of-length-le}
+use lib.Seq.{drop-cons}
+use borrow.Author.Tests.{eq-eqb, ne-eqb}
+use Rattle.calls.specs.Pieces.{Piece, pieceOf}
+use Rattle.window.specs.Window.{Laid, putOf, emitOf}
+use Rattle.window.proofs.Laid.{emit-append}
+use Rattle.benchfile.specs.Calls.{bytesIn, bytesOf, listIn, afterList, wholeBuffer}
+
+-- the bytes of a part of the words are that part of their bytes
+bytes-drop : (n : ℕ) (ws : List ℕ) → drop n (bytesIn ws) ≡ bytesIn (drop n ws)
+bytes-drop zero ws = refl
+bytes-drop (suc n) [] = refl
+bytes-drop (suc n) (w ∷ ws) = bytes-drop n ws
+
+pub bytes-take : (n : ℕ) (ws : List ℕ) → take n (bytesIn ws) ≡ bytesIn (take n ws)
+bytes-take zero ws = refl
+bytes-take (suc n) [] = refl
+bytes-take (suc n) (w ∷ ws) = ap (λ (s : List ℕ). w % 256 ∷ s) (bytes-take n ws)
+
+-- ---- words of which those before i are put
+module _ (ws : List ℕ) (L : Laid) (i : ℕ) (M : Laid) (done : emitOf (bytesIn (drop i ws)) M ≡ emitOf (bytesIn ws) L) where
+  pub all-bytes : length ws ≤ i → M ≡ emitOf (bytesIn ws) L
+  unfolding emitOf
+  all-bytes h = rw (drop-of-length-le ws h) at done
+
+  pub next-byte : i < length ws → (N : Laid) → N ≡ putOf (getD ws i 0 % 256) M → emitOf (bytesIn (drop (i + 1) ws)) N ≡ emitOf (bytesIn ws) L
+  unfolding emitOf
+  next-byte h N f = rw (f, add-one) (rw (drop-cons ws i 0 h) at done)
+
+pub ruleset words-put = (all-bytes, next-byte)
+
+-- ---- one operation, which reads or writes n bytes
+module _ (reads : Bool) (n : ℕ) (ws : List ℕ) (L M : Laid) where
+  abbrev pub Put : Type 0
+  Put = M ≡ cond reads (emitOf (replicate n 0) L) (emitOf (bytesIn (take n ws)) L)
+
+  module _ (r : Bool) (size : ℕ) (is : r ≡ reads) (long : size ≡ n) where
+    pub read-put : r ≡ true → M ≡ emitOf (replicate size 0) L → Put
+    read-put h e = rw (← is, h, ← long) e
+
+    pub write-put : r ≡ false → (part : List ℕ) → part ≡ take size ws → M ≡ emitOf (bytesIn part) L → Put
+    write-put h part f e = rw (← is, h, ← long, ← f) e
+
+  pub others-put : (ops : List ℕ) → Put →
+      emitOf (cond reads (replicate n 0 ++ bytesOf ops (bytesIn ws)) (take n (bytesIn ws) ++ bytesOf ops (drop n (bytesIn ws)))) L
+      ≡ emitOf (bytesOf ops (bytesIn (drop (cond reads 0 n) ws))) M
+  others-put ops e = rw e (rw (bytes-take, bytes-drop) (go reads))
+    where
+      go : (t : Bool) →
+          emitOf (cond t (replicate n 0 ++ bytesOf ops (bytesIn ws)) (bytesIn (take n ws) ++ bytesOf ops (bytesIn (drop n ws)))) L
+          ≡ emitOf (bytesOf ops (bytesIn (drop (cond t 0 n) ws))) (cond t (emitOf (replicate n 0) L) (emitOf (bytesIn (take n ws)) L))
+      go true = emit-append (replicate n 0) (bytesOf ops (bytesIn ws)) L
+      go false = emit-append (bytesIn (take n ws)) (bytesOf ops (bytesIn (drop n ws))) L
+
+pub ruleset operation-put = (read-put, write-put)
+
+-- ---- operations of which those before i are put, and `left` is what they left of the words
+module _ (ops ws : List ℕ) (L : Laid) (i : ℕ) (left : List ℕ) (M : Laid)
+    (done : emitOf (bytesOf (drop i ops) (bytesIn left)) M ≡ emitOf (bytesOf ops (bytesIn ws)) L) where
+  pub all-operations : length ops ≤ i → M ≡ emitOf (bytesOf ops (bytesIn ws)) L
+  unfolding emitOf
+  all-operations h = rw (drop-of-length-le ops h) at done
+
+  pub next-operation : i < length ops → (N : Laid) (size : ℕ) (others : List ℕ) →
+      Put (pieceOf (getD ops i 0) .reads) (pieceOf (getD ops i 0) .size) left M N →
+      size ≡ cond (pieceOf (getD ops i 0) .reads) 0 (pieceOf (getD ops i 0) .size) → others ≡ drop size left →
+      emitOf (bytesOf (drop (i + 1) ops) (bytesIn others)) N ≡ emitOf (bytesOf ops (bytesIn ws)) L
+  next-operation some N size others p e g =
+      rw (g, e, add-one)
+      (sym (others-put (pieceOf (getD ops i 0) .reads) (pieceOf (getD ops i 0) .size) left M N (drop (suc i) ops) p) ∙ (rw (drop-cons ops i 0 some) at done))
+
+-- ---- the whole buffer, by the call
+module _ (n a : ℕ) (head : List ℕ) (L M : Laid) where
+  abbrev Whole : Type 0
+  Whole = M ≡ emitOf (wholeBuffer n a head) L
+
+  pub list-whole : n ≡ 7 → (ops ws : List ℕ) → ops ≡ listIn head → ws ≡ afterList head → M ≡ emitOf (bytesOf ops (bytesIn ws)) L → Whole
+  unfolding wholeBuffer
+  list-whole h ops ws f g e = rw (eq-eqb n 7 h, ← f, ← g) e
+
+  module _ (other : n ≡ 7 → ⊥) where
+    pub zeros-whole : (eqb n 9 || eqb n 11) ≡ true → M ≡ emitOf (replicate a 0) L → Whole
+    unfolding wholeBuffer
+    zeros-whole h e = rw (ne-eqb n 7 other, h) e
+
+    pub bytes-whole : (eqb n 9 || eqb n 11) ≡ false → (eqb n 10 || eqb n 12) ≡ true → M ≡ emitOf (bytesIn head) L → Whole
+    unfolding wholeBuffer
+    bytes-whole h l e = rw (ne-eqb n 7 other, h, l) e
+
+    pub none-whole : (eqb n 9 || eqb n 11) ≡ false → (eqb n 10 || eqb n 12) ≡ false → M ≡ L → Whole
+    unfolding wholeBuffer emitOf
+    none-whole h l e = rw (ne-eqb n 7 other, h, l) e
+
+pub ruleset whole-put = (list-whole, zeros-whole, bytes-whole, none-whole)

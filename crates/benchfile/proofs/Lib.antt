@@ -1,0 +1,5 @@
+pub mod Parts
+pub mod Branch
+pub mod Lists
+pub mod Words
+pub mod Bytes

@@ -1,0 +1,41 @@
+-- `benchfile::buffer::put_operations` meets its contract. Assumes nothing.
+use Prim.Native.Nat.{_≤_, _-_}
+use mathlib.Core.Path.{_≡_}
+use lib.ListN.{length, drop}
+use borrow.Author.Needs.{needs}
+use Rattle.window.specs.Window.{laid, emitOf}
+use Rattle.benchfile.specs.Calls.{bytesIn, bytesOf}
+use Rattle.benchfile.proofs.Bytes.{all-operations, next-operation}
+use Rattle.benchfile.proofs.buffer.put_operations.Statement.{statement}
+use Rattle.benchfile.proofs.buffer.put_operations.Tie as tie
+
+abbrev Inv-loop : tie.InvT-loop
+Inv-loop ops bytes out₀ q₀ rest₀ i₀ i-end out q rest i =
+    (i ≤ length ops) × (length out ≡ length out₀)
+    × (emitOf (bytesOf (drop i ops) (bytesIn rest)) (laid q out) ≡ emitOf (bytesOf ops (bytesIn bytes)) (laid q₀ out₀))
+
+abbrev μ-loop : tie.MeasureT-loop
+μ-loop ops bytes out₀ q₀ rest₀ i₀ i-end out q rest i = length ops - i
+
+pub put-operations-spec : {M : Type 1} → statement M
+put-operations-spec =
+    tie.close
+    (tie.spec
+    Inv-loop
+    μ-loop
+    (λ c. search needs)
+    (λ c. search needs)
+    (λ c. search needs)
+    (λ c κs. search needs)
+    (λ c. search needs)
+    (λ c. search needs)
+    (λ c κs. search needs)
+    (λ c κs. search needs)
+    (λ c. search needs)
+    (λ c. search needs)
+    (λ c.
+    let loop = c .before .before .before .before .before .before .before .before .before .loop in
+    let put = c .before .before .before .before .before .put-operation in
+    (search needs, search needs, search (next-operation, loop .inv .2, c .before .before .before .before .before .before .before .before .loop-test .taken, put .ensures, c .before .write-size .ensures, c .after .ensures)))
+    (λ c. search needs)
+    (λ c. search (needs, all-operations)))

@@ -1,0 +1,16 @@
+-- `benchfile::head::is_list_wrong` meets its contract. Assumes nothing.
+use borrow.Author.Needs.{needs}
+use Rattle.benchfile.specs.Calls.{listWrong}
+use Rattle.benchfile.proofs.head.is_list_wrong.Statement.{statement}
+use Rattle.benchfile.proofs.head.is_list_wrong.Tie as tie
+
+pub is-list-wrong-spec : {M : Type 1} → statement M
+unfolding listWrong
+is-list-wrong-spec =
+    tie.close
+    (tie.spec
+    (λ c κs. search needs)
+    (λ c κs. search needs)
+    (λ c κs. search needs)
+    (λ c κs. search needs)
+    (λ c. cc))
