@@ -41,10 +41,11 @@ calls-whole zero rows bodies h = tt
 calls-whole (suc n) rows bodies h =
     let head : List ℕ = take (getD rows 2 0) bodies in
     let l : List ℕ = take (getD rows 3 0) (drop (getD rows 2 0) bodies) in
-    let few : length l ≤ 16384 = simp (length-take, length-drop) (omega arith) in
-    (whole-run (descriptionOf (getD rows 0 0) (getD rows 1 0) head) (operationsOf (getD rows 0 0) head) places
-    (lentBuffer (plain (getD rows 0 0)) (getD rows 1 0) head) l (omega arith),
-    calls-whole n (drop 4 rows) (drop (bodySize rows) bodies) (simp length-drop (omega arith)))
+    let few : length l ≤ 16384 = simp (length-take, length-drop) (omega arith) in (
+      whole-run (descriptionOf (getD rows 0 0) (getD rows 1 0) head) (operationsOf (getD rows 0 0) head) places
+          (lentBuffer (plain (getD rows 0 0)) (getD rows 1 0) head) l (omega arith),
+      calls-whole n (drop 4 rows) (drop (bodySize rows) bodies) (simp length-drop (omega arith)),
+    )
 
 pub every-whole : (file : List ℕ) → EveryWhole file
 every-whole file h =
