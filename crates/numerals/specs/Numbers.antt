@@ -48,14 +48,15 @@ unfoldable pub spelledOf : ℕ → ℕ → ℕ → List ℕ
 spelledOf base zero n = []
 spelledOf base (suc k) n = spelledOf base k (n / base) ++ (hexDigitOf (n % base) ∷ [])
 
-abbrev pub hexOf : ℕ → ℕ → List ℕ
-hexOf k n = spelledOf 16 k n
-
 -- without the zeros (48) before the first other digit; the last digit stays
 unfoldable pub significantOf : List ℕ → List ℕ
 significantOf [] = []
 significantOf (d ∷ []) = d ∷ []
 significantOf (d ∷ e ∷ s) = cond (eqb d 48) (significantOf (e ∷ s)) (d ∷ e ∷ s)
+
+-- in hexadecimal, k digits, zeros in front
+abbrev pub hexOf : ℕ → ℕ → List ℕ
+hexOf k n = spelledOf 16 k n
 
 -- in decimal: 20 digits hold 64 bits
 abbrev pub decimalOf : ℕ → List ℕ
