@@ -1,4 +1,4 @@
-//! `compare bench` and `compare store-bench`: bench files, and what the bench program prints of them
+//! `compare bench`, `compare bench-text` and `compare store-bench`: bench files, and what the bench program prints of them
 //! beside what the driver does.
 
 mod entry;
@@ -9,7 +9,7 @@ mod shrink;
 pub mod store;
 mod text;
 
-use std::io;
+use std::{fs, io};
 
 use crate::calls::tally::Tally;
 use crate::difference;
@@ -40,6 +40,12 @@ pub fn compare(files: u64, seed: u64, program: &str) -> io::Result<bool> {
         println!("bench: a call, an outcome, a refusal or the known difference was not reached");
     }
     Ok(all)
+}
+
+/// Prints the text of a file from the Rust.
+pub fn print(file: &str) -> io::Result<bool> {
+    print!("{}", text::of(&fs::read(file)?).text);
+    Ok(true)
 }
 
 /// What the program prints, and says by its status where that is no success.

@@ -19,6 +19,7 @@ const USAGE: &str = "usage: compare timing [--pairs N] [--seed S]
        compare packing [--seed S]
        compare calls --program FILE [--runs N] [--seed S]
        compare bench --program FILE [--files N] [--seed S]
+       compare bench-text --file FILE
        compare store-timing --inputs FILE --answers FILE [--check]
        compare store-calls --inputs FILE --answers FILE [--check]
        compare store-bench --crate DIR [--check]";
@@ -65,6 +66,11 @@ fn command(mut arguments: Arguments) -> Result<bool, String> {
         }
         "store-timing" => store(arguments, store::timing()),
         "store-calls" => store(arguments, calls::sample::texts()),
+        "bench-text" => {
+            let file = arguments.value("--file")?.ok_or("--file is missing")?;
+            arguments.none_left()?;
+            bench::print(&file).map_err(|error| format!("{file}: {error}"))
+        }
         "store-bench" => {
             let folder = arguments.needed("--crate")?;
             let check = arguments.flag("--check");
