@@ -19,12 +19,8 @@ use Rattle.bench.specs.Text.{showsBuffer, bufferText, runText, toldBy, c
 use Rattle.bench.specs.declared.call.Told.{Told}
 
 -- a text where a test holds, and none where it does not
-module _ (t r : Bool) (x : List ℕ) (L : Laid) where
-  pub printed : (M : Laid) → r ≡ t → r ≡ true → M ≡ emitOf x L → M ≡ emitOf (cond t x []) L
-  printed M e h m = rw (sym e ∙ h) m
-
-  pub left-out : r ≡ t → r ≡ false → L ≡ emitOf (cond t x []) L
-  left-out e h = rw (sym e ∙ h) (sym (emit-none L))
+pub left-out : (t r : Bool) (x : List ℕ) (L : Laid) → r ≡ t → r ≡ false → L ≡ emitOf (cond t x []) L
+left-out t r x L e h = rw (sym e ∙ h) (sym (emit-none L))
 
 pub where-shown : (n : ℕ) (r : Report) (s f : Bool) → s ≡ showsBuffer n → f ≡ isRefusal r → (s && not f) ≡ (showsBuffer n && not (isRefusal r))
 where-shown n r s f e g = rw (e, g)
