@@ -10,7 +10,7 @@ use Rattle.calls.specs.Refusals.{checkOf}
 use Rattle.calls.specs.Run.{Run, wordsOf}
 use Rattle.calls.specs.Whole.{WholeCall}
 use Rattle.calls.specs.declared.Description.{Description}
-use Rattle.benchfile.specs.Calls.{plain, descriptionOf, operationsOf, wholeBuffer}
+use Rattle.benchfile.specs.Calls.{plain, descriptionOf, operationsOf, lentBuffer}
 use Rattle.benchfile.specs.File.{wordsIn, sizeWrong, wordsWrong, fileWrong}
 use Rattle.drive.specs.Drive.{runFor}
 use Rattle.lines.specs.Lines.{callLine, accessLines, bufferLine, refusalLine}
@@ -33,10 +33,6 @@ toldBy R = record { report = R .report; used = R .used; accesses = length (R .en
 -- a call, with its line first
 abbrev pub callText : ℕ → Run → List ℕ
 callText n R = callLine n (R .report) (R .used) (length (R .entries)) ++ runText (plain n) R
-
--- the buffer of a call that is read like n
-abbrev pub lentBuffer : ℕ → ℕ → List ℕ → List ℕ
-lentBuffer n a head = take 65536 (wholeBuffer n a head)
 
 abbrev pub runIn : ℕ → ℕ → List ℕ → List ℕ → Run
 runIn n a head answers = runFor (descriptionOf n a head) (operationsOf n head) (lentBuffer (plain n) a head) answers

@@ -1,18 +1,17 @@
 -- The bytes of a buffer, put one after the other. Assumes nothing.
 use Prim.Native.Nat.{ℕ, zero, suc, _+_, _%_, _≤_, _<_}
 use native.Mathlib.Numerals.{add-one}
-use native.Mathlib.Omega.{arith}
-use mathlib.Core.Path.{_≡_, refl, sym, ap, _∙_}
-use mathlib.Core.Bool.{Bool, true, false, cond, _||_}
+use mathlib.Core.Path.{_≡_, refl, ap}
+use mathlib.Core.Bool.{Bool, true, false, _||_}
 use mathlib.Core.List.{List, [], _∷_, _++_}
 use lib.Dec.{eqb}
 use lib.ListN.{length, getD, take, drop, replicate, drop-of-length-le}
 use lib.Seq.{drop-cons}
 use borrow.Author.Tests.{eq-eqb, ne-eqb}
-use Rattle.calls.specs.Pieces.{Piece, pieceOf}
+use Rattle.calls.specs.Pieces.{pieceOf}
 use Rattle.window.specs.Window.{Laid, putOf, emitOf}
 use Rattle.window.proofs.Laid.{emit-append}
-use Rattle.benchfile.specs.Calls.{bytesIn, bytesOf, listIn, afterList, wholeBuffer}
+use Rattle.benchfile.specs.Calls.{bytesIn, writeSize, operationBytes, bytesOf, listIn, afterList, wholeBuffer}
 
 -- the bytes of a part of the words are that part of their bytes
 bytes-drop : (n : ℕ) (ws : List ℕ) → drop n (bytesIn ws) ≡ bytesIn (drop n ws)
@@ -31,34 +30,22 @@ module _ (ws : List ℕ) (L : Laid) (i : ℕ) (M : Laid) (done : emitOf (bytesIn
   unfolding emitOf
   all-bytes h = rw (drop-of-length-le ws h) at done
 
-  pub next-byte : i < length ws → (N : Laid) → N ≡ putOf (getD ws i 0 % 256) M → emitOf (bytesIn (drop (i + 1) ws)) N ≡ emitOf (bytesIn ws) L
+  pub next-byte : i < length ws → (N : Laid) → N ≡ putOf (getD ws i 0 % 256) M →
+      emitOf (bytesIn (drop (i + 1) ws)) N ≡ emitOf (bytesIn ws) L
   unfolding emitOf
   next-byte h N f = rw (f, add-one) (rw (drop-cons ws i 0 h) at done)
 
 pub ruleset words-put = (all-bytes, next-byte)
 
--- ---- one operation, which reads or writes n bytes
-module _ (reads : Bool) (n : ℕ) (ws : List ℕ) (L M : Laid) where
-  abbrev pub Put : Type 0
-  Put = M ≡ cond reads (emitOf (replicate n 0) L) (emitOf (bytesIn (take n ws)) L)
+-- ---- one operation
+module _ (o : ℕ) (ws : List ℕ) (L M : Laid) (r : Bool) (size : ℕ)
+    (is : r ≡ pieceOf o .reads) (long : size ≡ pieceOf o .size) where
+  pub read-put : r ≡ true → M ≡ emitOf (replicate size 0) L → M ≡ emitOf (operationBytes o (bytesIn ws)) L
+  read-put h e = rw (← is, h, ← long) e
 
-  module _ (r : Bool) (size : ℕ) (is : r ≡ reads) (long : size ≡ n) where
-    pub read-put : r ≡ true → M ≡ emitOf (replicate size 0) L → Put
-    read-put h e = rw (← is, h, ← long) e
-
-    pub write-put : r ≡ false → (part : List ℕ) → part ≡ take size ws → M ≡ emitOf (bytesIn part) L → Put
-    write-put h part f e = rw (← is, h, ← long, ← f) e
-
-  pub others-put : (ops : List ℕ) → Put →
-      emitOf (cond reads (replicate n 0 ++ bytesOf ops (bytesIn ws)) (take n (bytesIn ws) ++ bytesOf ops (drop n (bytesIn ws)))) L
-      ≡ emitOf (bytesOf ops (bytesIn (drop (cond reads 0 n) ws))) M
-  others-put ops e = rw e (rw (bytes-take, bytes-drop) (go reads))
-    where
-      go : (t : Bool) →
-          emitOf (cond t (replicate n 0 ++ bytesOf ops (bytesIn ws)) (bytesIn (take n ws) ++ bytesOf ops (bytesIn (drop n ws)))) L
-          ≡ emitOf (bytesOf ops (bytesIn (drop (cond t 0 n) ws))) (cond t (emitOf (replicate n 0) L) (emitOf (bytesIn (take n ws)) L))
-      go true = emit-append (replicate n 0) (bytesOf ops (bytesIn ws)) L
-      go false = emit-append (bytesIn (take n ws)) (bytesOf ops (bytesIn (drop n ws))) L
+  pub write-put : r ≡ false → (part : List ℕ) → part ≡ take size ws → M ≡ emitOf (bytesIn part) L →
+      M ≡ emitOf (operationBytes o (bytesIn ws)) L
+  write-put h part f e = rw (← is, h, ← long, bytes-take, ← f) e
 
 pub ruleset operation-put = (read-put, write-put)
 
@@ -70,19 +57,19 @@ module _ (ops ws : List ℕ) (L : Laid) (i : ℕ) (left : List ℕ) (M : Laid)
   all-operations h = rw (drop-of-length-le ops h) at done
 
   pub next-operation : i < length ops → (N : Laid) (size : ℕ) (others : List ℕ) →
-      Put (pieceOf (getD ops i 0) .reads) (pieceOf (getD ops i 0) .size) left M N →
-      size ≡ cond (pieceOf (getD ops i 0) .reads) 0 (pieceOf (getD ops i 0) .size) → others ≡ drop size left →
+      N ≡ emitOf (operationBytes (getD ops i 0) (bytesIn left)) M →
+      size ≡ writeSize (getD ops i 0) → others ≡ drop size left →
       emitOf (bytesOf (drop (i + 1) ops) (bytesIn others)) N ≡ emitOf (bytesOf ops (bytesIn ws)) L
-  next-operation some N size others p e g =
-      rw (g, e, add-one)
-      (sym (others-put (pieceOf (getD ops i 0) .reads) (pieceOf (getD ops i 0) .size) left M N (drop (suc i) ops) p) ∙ (rw (drop-cons ops i 0 some) at done))
+  next-operation some N size others f e g =
+      rw (f, g, e, add-one, ← bytes-drop, ← emit-append) (rw (drop-cons ops i 0 some) at done)
 
 -- ---- the whole buffer, by the call
 module _ (n a : ℕ) (head : List ℕ) (L M : Laid) where
   abbrev Whole : Type 0
   Whole = M ≡ emitOf (wholeBuffer n a head) L
 
-  pub list-whole : n ≡ 7 → (ops ws : List ℕ) → ops ≡ listIn head → ws ≡ afterList head → M ≡ emitOf (bytesOf ops (bytesIn ws)) L → Whole
+  pub list-whole : n ≡ 7 → (ops ws : List ℕ) → ops ≡ listIn head → ws ≡ afterList head →
+      M ≡ emitOf (bytesOf ops (bytesIn ws)) L → Whole
   unfolding wholeBuffer
   list-whole h ops ws f g e = rw (eq-eqb n 7 h, ← f, ← g) e
 

@@ -3,3 +3,4 @@ pub mod Branch
 pub mod Lists
 pub mod Words
 pub mod Bytes
+pub mod Examples

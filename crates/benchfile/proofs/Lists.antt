@@ -3,14 +3,13 @@ use Prim.Native.Nat.{ℕ, _+_, _-_, _≤_, _<_}
 use native.Mathlib.Numerals.{add-one}
 use native.Mathlib.Omega.{arith}
 use mathlib.Core.Path.{_≡_, refl, sym}
-use mathlib.Core.Bool.{Bool, true, false, cond}
+use mathlib.Core.Bool.{Bool, true, false}
 use mathlib.Core.List.{List}
-use lib.Dec.{eqb, ltb}
+use lib.Dec.{eqb}
 use lib.ListN.{length, getD, drop, drop-of-length-le}
 use lib.Seq.{drop-cons}
 use borrow.Author.Tests.{lt-ltb, le-ltb, eq-eqb, ne-eqb, eqb-true, eqb-false}
-use Rattle.calls.specs.Pieces.{pieceOf}
-use Rattle.benchfile.specs.Calls.{anyWide, writeBytes}
+use Rattle.benchfile.specs.Calls.{anyWide, writeSize, writeBytes}
 
 -- no word before i is wide
 module _ (ws : List ℕ) (i : ℕ) (none : anyWide ws ≡ anyWide (drop i ws)) where
@@ -25,6 +24,7 @@ module _ (ws : List ℕ) (i : ℕ) (none : anyWide ws ≡ anyWide (drop i ws)) w
 
 pub ruleset wides = (no-wide, wide, narrow)
 
+-- two tests that say the same
 same-test : (a b c d : ℕ) → (a ≡ b → c ≡ d) → (c ≡ d → a ≡ b) → eqb a b ≡ eqb c d
 same-test a b c d f g = go (eqb a b) refl
   where
@@ -39,7 +39,7 @@ module _ (ops : List ℕ) (n left i : ℕ) (taken : n + writeBytes (drop i ops) 
       let z : n ≡ left + writeBytes ops = omega (arith, rw (drop-of-length-le ops h) at taken) in
       same-test left 0 n (writeBytes ops) (λ e. omega arith) (λ e. omega arith)
 
-  module _ (size : ℕ) (some : i < length ops) (is : size ≡ cond (pieceOf (getD ops i 0) .reads) 0 (pieceOf (getD ops i 0) .size)) where
+  module _ (size : ℕ) (some : i < length ops) (is : size ≡ writeSize (getD ops i 0)) where
     pub too-few : left < size → false ≡ eqb n (writeBytes ops)
     too-few h = sym (ne-eqb n (writeBytes ops) (λ e. omega (arith, rw (drop-cons ops i 0 some) at taken)))
 

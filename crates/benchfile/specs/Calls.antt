@@ -30,10 +30,13 @@ anyWide = anyOf (ltb 255)
 abbrev pub bytesIn : List ℕ → List ℕ
 bytesIn = map (λ (w : ℕ). w % 256)
 
--- the bytes that the write operations of a list have
+-- the bytes that an operation writes, and those that a list of them writes
+abbrev pub writeSize : ℕ → ℕ
+writeSize o = cond (pieceOf o .reads) 0 (pieceOf o .size)
+
 abbrev pub writeBytes : List ℕ → ℕ
 writeBytes [] = 0
-writeBytes (o ∷ ops) = cond (pieceOf o .reads) 0 (pieceOf o .size) + writeBytes ops
+writeBytes (o ∷ ops) = writeSize o + writeBytes ops
 
 -- the words of 7's head after the count k: k operations, then a word per write byte
 unfoldable pub listWrong : ℕ → List ℕ → Bool
@@ -90,11 +93,12 @@ unfoldable pub operationsOf : ℕ → List ℕ → List ℕ
 operationsOf n head = cond (eqb n 7) (listIn head) []
 
 -- the operations' bytes in order, a write's from the list, a read's zeros
+abbrev pub operationBytes : ℕ → List ℕ → List ℕ
+operationBytes o bytes = cond (pieceOf o .reads) (replicate (pieceOf o .size) 0) (take (pieceOf o .size) bytes)
+
 abbrev pub bytesOf : List ℕ → List ℕ → List ℕ
 bytesOf [] bytes = []
-bytesOf (o ∷ ops) bytes =
-    let size : ℕ = pieceOf o .size in
-    cond (pieceOf o .reads) (replicate size 0 ++ bytesOf ops bytes) (take size bytes ++ bytesOf ops (drop size bytes))
+bytesOf (o ∷ ops) bytes = operationBytes o bytes ++ bytesOf ops (drop (writeSize o) bytes)
 
 -- before it is cut
 unfoldable pub wholeBuffer : ℕ → ℕ → List ℕ → List ℕ
@@ -103,6 +107,6 @@ wholeBuffer n a head =
     (cond (eqb n 9 || eqb n 11) (replicate a 0)
     (cond (eqb n 10 || eqb n 12) (bytesIn head) []))
 
--- the buffer that is lent
-abbrev pub bufferOf : ℕ → ℕ → List ℕ → List ℕ
-bufferOf n a head = take 65536 (wholeBuffer (plain n) a head)
+-- the buffer that is lent to a call that is read like n
+abbrev pub lentBuffer : ℕ → ℕ → List ℕ → List ℕ
+lentBuffer n a head = take 65536 (wholeBuffer n a head)

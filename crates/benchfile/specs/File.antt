@@ -18,15 +18,18 @@ wordsFrom (suc n) file = wordOf (getD file 0 0) (getD file 1 0) (getD file 2 0) 
 unfoldable pub wordsIn : List ℕ → List ℕ
 wordsIn file = wordsFrom (length file / 4) file
 
--- The n rows of the table: a call's number, its argument, how many head words it has and how many answer words. The bodies
--- have to be as long as the rows say.
+-- A row of the table: a call's number, its argument, how many head words it has and how many answer words. The bodies have
+-- to be as long as the rows say.
+abbrev pub bodySize : List ℕ → ℕ
+bodySize row = getD row 2 0 + getD row 3 0
+
+unfoldable pub rowWrong : List ℕ → List ℕ → Bool
+rowWrong row bodies =
+    ltb (length bodies) (bodySize row) || callWrong (getD row 0 0) (getD row 1 0) (take (getD row 2 0) bodies)
+
 unfoldable pub rowsWrong : ℕ → List ℕ → List ℕ → Bool
 rowsWrong zero rows bodies = not (eqb (length bodies) 0)
-rowsWrong (suc n) rows bodies =
-    let head : ℕ = getD rows 2 0 in
-    let size : ℕ = head + getD rows 3 0 in
-    ltb (length bodies) size
-    || (callWrong (getD rows 0 0) (getD rows 1 0) (take head bodies) || rowsWrong n (drop 4 rows) (drop size bodies))
+rowsWrong (suc n) rows bodies = rowWrong rows bodies || rowsWrong n (drop 4 rows) (drop (bodySize rows) bodies)
 
 unfoldable pub tableWrong : ℕ → List ℕ → Bool
 tableWrong n words = ltb 64 n || (ltb (length words) (4 * n) || rowsWrong n words (drop (4 * n) words))

@@ -1,10 +1,7 @@
 // The buffer of a call, laid out and cut to the room that there is.
 ghost use mathlib.Core.Path.{_≡_};
-ghost use mathlib.Core.Bool.{cond};
-ghost use lib.ListN.{take, replicate};
-ghost use Rattle.calls.specs.Pieces.{pieceOf};
 ghost use Rattle.window.specs.Window.{asShown, windowOf, laid, emitOf};
-ghost use Rattle.benchfile.specs.Calls.{bytesIn, afterList, bytesOf, wholeBuffer};
+ghost use Rattle.benchfile.specs.Calls.{bytesIn, operationBytes, bytesOf, afterList, wholeBuffer};
 use crate::head;
 use crate::part::after;
 use crate::part::first;
@@ -23,7 +20,8 @@ fn put_bytes(p: Place, words: &[u32], out: &mut [u8]) -> Place
 
 // The bytes of an operation: zeros, or the first of those that are written.
 fn put_operation(p: Place, o: u32, bytes: &[u32], out: &mut [u8]) -> Place
-    ensures { λ r. ⌜ laid r (now (out .exit)) ≡ cond (pieceOf o .reads) (emitOf (replicate (pieceOf o .size) 0) (laid p (now (out .entry)))) (emitOf (bytesIn (take (pieceOf o .size) (now (bytes .entry)))) (laid p (now (out .entry)))) ⌝ }
+    ensures { λ r. ⌜ laid r (now (out .exit))
+        ≡ emitOf (operationBytes o (bytesIn (now (bytes .entry)))) (laid p (now (out .entry))) ⌝ }
 {
     let size = head::length(o) as usize;
     if head::is_read(o) {
@@ -33,7 +31,8 @@ fn put_operation(p: Place, o: u32, bytes: &[u32], out: &mut [u8]) -> Place
 }
 
 fn put_operations(p: Place, ops: &[u32], bytes: &[u32], out: &mut [u8]) -> Place
-    ensures { λ r. ⌜ laid r (now (out .exit)) ≡ emitOf (bytesOf (now (ops .entry)) (bytesIn (now (bytes .entry)))) (laid p (now (out .entry))) ⌝ }
+    ensures { λ r. ⌜ laid r (now (out .exit))
+        ≡ emitOf (bytesOf (now (ops .entry)) (bytesIn (now (bytes .entry)))) (laid p (now (out .entry))) ⌝ }
 {
     let mut q = p;
     let mut rest = bytes;
@@ -53,7 +52,8 @@ fn after_list(head: &[u32]) -> &[u32]
 }
 
 fn put_buffer(p: Place, n: u32, a: u32, head: &[u32], out: &mut [u8]) -> Place
-    ensures { λ r. ⌜ laid r (now (out .exit)) ≡ emitOf (wholeBuffer n a (now (head .entry))) (laid p (now (out .entry))) ⌝ }
+    ensures { λ r. ⌜ laid r (now (out .exit))
+        ≡ emitOf (wholeBuffer n a (now (head .entry))) (laid p (now (out .entry))) ⌝ }
 {
     if n == 7 {
         return put_operations(p, head::list(head), after_list(head), out);

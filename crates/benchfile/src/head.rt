@@ -1,11 +1,11 @@
 // A call's number, argument and head words: whether they fit, and what they describe.
 ghost use mathlib.Core.Path.{_≡_};
-ghost use mathlib.Core.Bool.{cond};
 ghost use lib.Dec.{eqb};
-ghost use lib.ListN.{length};
 ghost use Rattle.calls.specs.Pieces.{pieceOf};
-ghost use Rattle.benchfile.specs.Calls.{hasArgument, argumentWrong, anyWide, writeBytes, listWrong, transactionWrong, configWrong, headWrong, callWrong, configIn, configFrom, descriptionOf, listIn, operationsOf};
 ghost use Rattle.benchfile.specs.Calls.{plain as Calls·plain};
+ghost use Rattle.benchfile.specs.Calls.{hasArgument, argumentWrong, anyWide, writeSize, writeBytes, listWrong};
+ghost use Rattle.benchfile.specs.Calls.{transactionWrong, configWrong, headWrong, callWrong};
+ghost use Rattle.benchfile.specs.Calls.{configIn, configFrom, descriptionOf, listIn, operationsOf};
 use crate::part::after;
 use crate::part::first;
 use crate::part::word;
@@ -62,12 +62,12 @@ pub fn length(o: u32) -> u32
 }
 
 pub fn write_size(o: u32) -> usize
-    ensures { λ r. ⌜ r ≡ cond (pieceOf o .reads) 0 (pieceOf o .size) ⌝ }
+    ensures { λ r. ⌜ r ≡ writeSize o ⌝ }
 {
     if is_read(o) { 0 } else { length(o) as usize }
 }
 
-// Whether the writes of a list have just n bytes.
+// Whether the writes of a list have just n bytes: counted down, so that no sum needs a bound.
 fn has_write_bytes(ops: &[u32], n: usize) -> bool
     ensures { λ r. ⌜ r ≡ eqb n (writeBytes (now (ops .entry))) ⌝ }
 {
@@ -82,6 +82,7 @@ fn has_write_bytes(ops: &[u32], n: usize) -> bool
     left == 0
 }
 
+// The words after the count k.
 fn is_list_wrong(k: usize, words: &[u32]) -> bool
     ensures { λ r. ⌜ r ≡ listWrong k (now (words .entry)) ⌝ }
 {

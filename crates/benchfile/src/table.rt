@@ -1,12 +1,7 @@
 // A file's words, its table of contents and its bodies.
 ghost use mathlib.Core.Path.{_≡_};
-ghost use Prim.Native.Nat.{_+_};
-ghost use mathlib.Core.Bool.{_||_};
-ghost use lib.Dec.{ltb};
-ghost use lib.ListN.{length, getD, take};
 ghost use Rattle.window.specs.Window.{asShown, windowOf};
-ghost use Rattle.benchfile.specs.Calls.{callWrong};
-ghost use Rattle.benchfile.specs.File.{wordOf, wordsIn, rowsWrong, tableWrong, wordsWrong, sizeWrong};
+ghost use Rattle.benchfile.specs.File.{wordOf, wordsIn, bodySize, rowWrong, rowsWrong, tableWrong, wordsWrong, sizeWrong};
 use crate::head::is_call_wrong;
 use crate::part::after;
 use crate::part::first;
@@ -43,17 +38,17 @@ pub fn is_size_wrong(bytes: usize) -> bool
 
 // How many words the body of a row's call has.
 fn body_size(row: &[u32]) -> usize
-    ensures { λ r. ⌜ r ≡ getD (now (row .entry)) 2 0 + getD (now (row .entry)) 3 0 ⌝ }
+    ensures { λ r. ⌜ r ≡ bodySize (now (row .entry)) ⌝ }
 {
     word(row, 2) as usize + word(row, 3) as usize
 }
 
 // Whether the bodies are too short for the first row, or its call is wrong.
-fn is_row_wrong(rows: &[u32], bodies: &[u32]) -> bool
-    ensures { λ r. ⌜ r ≡ (ltb (length (now (bodies .entry))) (getD (now (rows .entry)) 2 0 + getD (now (rows .entry)) 3 0) || callWrong (getD (now (rows .entry)) 0 0) (getD (now (rows .entry)) 1 0) (take (getD (now (rows .entry)) 2 0) (now (bodies .entry)))) ⌝ }
+fn is_row_wrong(row: &[u32], bodies: &[u32]) -> bool
+    ensures { λ r. ⌜ r ≡ rowWrong (now (row .entry)) (now (bodies .entry)) ⌝ }
 {
-    let head = first(bodies, word(rows, 2) as usize);
-    (bodies.len() < body_size(rows)) | is_call_wrong(word(rows, 0), word(rows, 1), head)
+    let head = first(bodies, word(row, 2) as usize);
+    (bodies.len() < body_size(row)) | is_call_wrong(word(row, 0), word(row, 1), head)
 }
 
 fn is_rows_wrong(n: usize, rows: &[u32], bodies: &[u32]) -> bool
@@ -66,6 +61,7 @@ fn is_rows_wrong(n: usize, rows: &[u32], bodies: &[u32]) -> bool
         if is_row_wrong(table, rest) {
             return true;
         }
+        // by names of their own, since a call does not return into the slice that it was given
         let others = after(table, 4);
         let behind = after(rest, body_size(table));
         table = others;

@@ -11,4 +11,4 @@ after-list-spec =
     (λ c κs. search needs)
     (λ c. search needs)
     (λ c κs. search needs)
-    (λ c. cc))
+    (λ c. rw (c .after2 .ensures, c .before .word .ensures, c .before .before .after .ensures)))

@@ -1,4 +1,4 @@
--- `benchfile::buffer::put_buffer` meets its contract. Assumes nothing.
+-- `benchfile::buffer::put_buffer` meets its contract, by the tests on the way. Assumes nothing.
 use borrow.Author.Needs.{needs}
 use Rattle.benchfile.proofs.Bytes.{whole-put}
 use Rattle.benchfile.proofs.buffer.put_buffer.Statement.{statement}

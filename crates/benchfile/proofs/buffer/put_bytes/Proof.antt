@@ -1,4 +1,5 @@
--- `benchfile::buffer::put_bytes` meets its contract. Assumes nothing.
+-- `benchfile::buffer::put_bytes` meets its contract. The invariant: the words from i on, put where the text stands, are the
+-- whole. Assumes nothing.
 use Prim.Native.Nat.{_≤_, _-_}
 use mathlib.Core.Path.{_≡_}
 use lib.ListN.{length, drop}
@@ -11,7 +12,8 @@ use Rattle.benchfile.proofs.buffer.put_bytes.Tie as tie
 
 abbrev Inv-loop : tie.InvT-loop
 Inv-loop words out₀ q₀ i₀ i-end out q i =
-    (i ≤ length words) × (length out ≡ length out₀) × (emitOf (bytesIn (drop i words)) (laid q out) ≡ emitOf (bytesIn words) (laid q₀ out₀))
+    (i ≤ length words) × (length out ≡ length out₀)
+    × (emitOf (bytesIn (drop i words)) (laid q out) ≡ emitOf (bytesIn words) (laid q₀ out₀))
 
 abbrev μ-loop : tie.MeasureT-loop
 μ-loop words out₀ q₀ i₀ i-end out q i = length words - i
@@ -22,13 +24,13 @@ put-bytes-spec =
     (tie.spec
     Inv-loop
     μ-loop
-    (λ c. search (needs, words-put))
-    (λ c. search (needs, words-put))
-    (λ c. search (needs, words-put))
-    (λ c. search (needs, words-put))
+    (λ c. search needs)
+    (λ c. search needs)
+    (λ c. search needs)
+    (λ c. search needs)
     (λ c κs. search needs)
+    (λ c. search needs)
+    (λ c. search needs)
     (λ c. search (needs, words-put))
-    (λ c. search (needs, words-put))
-    (λ c. search (needs, words-put))
-    (λ c. search (needs, words-put))
+    (λ c. search needs)
     (λ c. search (needs, words-put)))

@@ -1,4 +1,4 @@
--- `benchfile::buffer::put_operation` meets its contract. Assumes nothing.
+-- `benchfile::buffer::put_operation` meets its contract, by whether the operation reads. Assumes nothing.
 use borrow.Author.Needs.{needs}
 use Rattle.benchfile.proofs.Bytes.{operation-put}
 use Rattle.benchfile.proofs.buffer.put_operation.Statement.{statement}

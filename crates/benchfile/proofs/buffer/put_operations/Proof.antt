@@ -1,4 +1,5 @@
--- `benchfile::buffer::put_operations` meets its contract. Assumes nothing.
+-- `benchfile::buffer::put_operations` meets its contract. The invariant: the operations from i on, put where the text stands
+-- with the bytes that are left, are the whole. Assumes nothing.
 use Prim.Native.Nat.{_≤_, _-_}
 use mathlib.Core.Path.{_≡_}
 use lib.ListN.{length, drop}
@@ -33,9 +34,6 @@ put-operations-spec =
     (λ c κs. search needs)
     (λ c. search needs)
     (λ c. search needs)
-    (λ c.
-    let loop = c .before .before .before .before .before .before .before .before .before .loop in
-    let put = c .before .before .before .before .before .put-operation in
-    (search needs, search needs, search (next-operation, loop .inv .2, c .before .before .before .before .before .before .before .before .loop-test .taken, put .ensures, c .before .write-size .ensures, c .after .ensures)))
+    (λ c. search (needs, next-operation))
     (λ c. search needs)
     (λ c. search (needs, all-operations)))

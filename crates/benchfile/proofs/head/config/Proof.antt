@@ -11,4 +11,6 @@ config-spec =
     (λ c κs. search needs)
     (λ c κs. search needs)
     (λ c κs. search needs)
-    (λ c. cc))
+    (λ c.
+    let two = c .before .before in
+    rw (c .word4 .ensures, c .before .word3 .ensures, two .word2 .ensures, two .before .word .ensures)))

@@ -13,4 +13,6 @@ describe-spec =
     (λ c κs. search needs)
     (λ c κs. search needs)
     (λ c κs. search needs)
-    (λ c. cc))
+    (λ c.
+    let cut = c .before .before in
+    rw (c .config .ensures, c .before .after .ensures, cut .config-from .ensures, cut .before .word .ensures)))

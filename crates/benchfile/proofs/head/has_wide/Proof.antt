@@ -1,4 +1,4 @@
--- `benchfile::head::has_wide` meets its contract. Assumes nothing.
+-- `benchfile::head::has_wide` meets its contract. The invariant: the words from i on decide. Assumes nothing.
 use Prim.Native.Nat.{_≤_, _-_}
 use mathlib.Core.Path.{_≡_}
 use lib.ListN.{length, drop}
@@ -20,11 +20,11 @@ has-wide-spec =
     (tie.spec
     Inv-loop
     μ-loop
+    (λ c. search needs)
+    (λ c. search needs)
+    (λ c. search needs)
     (λ c. search (needs, wides))
-    (λ c. search (needs, wides))
-    (λ c. search (needs, wides))
-    (λ c. search (needs, wides))
-    (λ c. search (needs, wides))
-    (λ c. search (needs, wides))
+    (λ c. search needs)
+    (λ c. search needs)
     (λ c. search (needs, wides))
     (λ c. search (needs, wides)))

@@ -1,4 +1,5 @@
--- `benchfile::head::has_write_bytes` meets its contract. Assumes nothing.
+-- `benchfile::head::has_write_bytes` meets its contract. The invariant: what the operations before i write was taken from n.
+-- Assumes nothing.
 use Prim.Native.Nat.{_≤_, _+_, _-_}
 use mathlib.Core.Path.{_≡_}
 use lib.ListN.{length, drop}
@@ -20,12 +21,12 @@ has-write-bytes-spec =
     (tie.spec
     Inv-loop
     μ-loop
-    (λ c. search (needs, takes))
-    (λ c. search (needs, takes))
-    (λ c. search (needs, takes))
+    (λ c. search needs)
+    (λ c. search needs)
+    (λ c. search needs)
     (λ c κs. search needs)
     (λ c. search (needs, takes))
-    (λ c. search (needs, takes))
-    (λ c. search (needs, takes))
+    (λ c. search needs)
+    (λ c. search needs)
     (λ c. search (needs, takes))
     (λ c. search (needs, takes)))

@@ -1,6 +1,5 @@
 -- `benchfile::head::is_argument_wrong` meets its contract. Assumes nothing.
 use borrow.Author.Needs.{needs}
-use Rattle.benchfile.proofs.Branch.{branches}
 use Rattle.benchfile.specs.Calls.{argumentWrong}
 use Rattle.fields.proofs.Tests.{tests}
 use Rattle.benchfile.proofs.head.is_argument_wrong.Statement.{statement}

@@ -12,4 +12,4 @@ is-call-wrong-spec =
     (λ c κs. search needs)
     (λ c κs. search needs)
     (λ c κs. search needs)
-    (λ c. cc))
+    (λ c. rw (c .is-head-wrong .ensures, c .before .is-argument-wrong .ensures, c .before .before .plain .ensures)))

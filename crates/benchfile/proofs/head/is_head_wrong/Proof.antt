@@ -1,4 +1,4 @@
--- `benchfile::head::is_head_wrong` meets its contract. Assumes nothing.
+-- `benchfile::head::is_head_wrong` meets its contract, by the arm of the match. Assumes nothing.
 use borrow.Author.Needs.{needs}
 use Rattle.benchfile.specs.Calls.{headWrong}
 use Rattle.fields.proofs.Tests.{tests}

@@ -13,4 +13,6 @@ is-list-wrong-spec =
     (λ c κs. search needs)
     (λ c κs. search needs)
     (λ c κs. search needs)
-    (λ c. cc))
+    (λ c.
+    let cut = c .before .before in
+    rw (c .has-wide .ensures, c .before .has-write-bytes .ensures, cut .first .ensures, cut .before .after .ensures)))

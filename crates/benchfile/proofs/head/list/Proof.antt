@@ -11,4 +11,4 @@ list-spec =
     (λ c κs. search needs)
     (λ c. search needs)
     (λ c κs. search needs)
-    (λ c. cc))
+    (λ c. rw (c .first .ensures, c .before .word .ensures, c .before .before .after .ensures)))

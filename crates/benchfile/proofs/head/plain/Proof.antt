@@ -10,7 +10,7 @@ unfolding plain
 plain-spec =
     tie.close
     (tie.spec
-    (λ c. search (needs, tests))
+    (λ c. search needs)
     (λ c. search (needs, tests))
     (λ c. search (needs, tests))
     (λ c. search (needs, tests)))

@@ -1,4 +1,4 @@
--- `benchfile::head::write_size` meets its contract. Assumes nothing.
+-- `benchfile::head::write_size` meets its contract, by whether the operation reads. Assumes nothing.
 use borrow.Author.Needs.{needs}
 use Rattle.benchfile.proofs.Branch.{branches}
 use Rattle.benchfile.proofs.head.write_size.Statement.{statement}

@@ -1,4 +1,4 @@
--- `benchfile::table::is_rows_wrong` meets its contract. Assumes nothing.
+-- `benchfile::table::is_rows_wrong` meets its contract. The invariant: the rows that are left decide. Assumes nothing.
 use mathlib.Core.Path.{_≡_}
 use borrow.Author.Needs.{needs}
 use Rattle.benchfile.specs.File.{rowsWrong}
@@ -18,13 +18,13 @@ is-rows-wrong-spec =
     (tie.spec
     Inv-loop
     μ-loop
-    (λ c. search (needs, turns))
+    (λ c. search needs)
     (λ c κs. search needs)
     (λ c. search (needs, turns))
     (λ c κs. search needs)
     (λ c κs. search needs)
     (λ c κs. search needs)
-    (λ c. search (needs, turns))
-    (λ c. search (needs, turns))
+    (λ c. search needs)
+    (λ c. search needs)
     (λ c. search (needs, turns))
     (λ c. search (needs, turns)))
