@@ -6,6 +6,7 @@ use mathlib.Core.Bool.{Bool, true, false, cond, not, _&&_}
 use mathlib.Core.List.{List, [], _++_}
 use lib.ListN.{length, getD, take, drop}
 use Rattle.benchfile.specs.Calls.{plain, descriptionOf, operationsOf, lentBuffer}
+use Rattle.benchfile.specs.File.{bodySize}
 use Rattle.calls.specs.Advances.{isRefusal}
 use Rattle.calls.specs.Run.{Run, wordsOf}
 use Rattle.calls.specs.declared.Description.{Description}
@@ -15,7 +16,7 @@ use Rattle.drive.specs.declared.Driven.{Driven}
 use Rattle.lines.specs.Lines.{callLine, accessLines, bufferLine}
 use Rattle.window.proofs.Laid.{emit-append, emit-none, front}
 use Rattle.window.specs.Window.{Laid, emitOf, asShown, windowOf}
-use Rattle.bench.specs.Text.{showsBuffer, bufferText, runText, toldBy, callText, runIn, rowText, bodySize, callsText}
+use Rattle.bench.specs.Text.{showsBuffer, bufferText, runText, toldBy, callText, runIn, rowText, callsText}
 use Rattle.bench.specs.declared.call.Told.{Told}
 
 -- a text where a test holds, and none where it does not

@@ -9,12 +9,12 @@ use lib.ListN.{length, getD, take, drop, length-take, length-drop}
 use lib.Seq.{take-all}
 use borrow.Author.Tests.{ltb-false}
 use Rattle.benchfile.specs.Calls.{plain, descriptionOf, operationsOf, lentBuffer}
-use Rattle.benchfile.specs.File.{wordsFrom, wordsIn, sizeWrong, wordsWrong, fileWrong}
+use Rattle.benchfile.specs.File.{wordsFrom, wordsIn, bodySize, sizeWrong, wordsWrong, fileWrong}
 use Rattle.calls.proofs.Ends.{whole-run}
 use Rattle.drive.specs.Drive.{places}
 use Rattle.window.proofs.Laid.{front}
 use Rattle.window.specs.Window.{asShown, windowOf}
-use Rattle.bench.specs.Text.{bodySize, CallsWhole, EveryWhole}
+use Rattle.bench.specs.Text.{CallsWhole, EveryWhole}
 
 neither : (a b : Bool) → (a || b) ≡ false → a ≡ false
 neither true b h = absurd (subst T h tt)

@@ -1,5 +1,5 @@
 -- What the bench prints for a file (document 01, "Bench"). Assumes nothing.
-use Prim.Native.Nat.{ℕ, zero, suc, _+_, _*_}
+use Prim.Native.Nat.{ℕ, zero, suc, _*_}
 use mathlib.Core.Path.{_≡_}
 use mathlib.Core.Bool.{Bool, false, cond, not, _&&_, _||_}
 use mathlib.Core.List.{List, [], _++_}
@@ -11,7 +11,7 @@ use Rattle.calls.specs.Run.{Run, wordsOf}
 use Rattle.calls.specs.Whole.{WholeCall}
 use Rattle.calls.specs.declared.Description.{Description}
 use Rattle.benchfile.specs.Calls.{plain, descriptionOf, operationsOf, lentBuffer}
-use Rattle.benchfile.specs.File.{wordsIn, sizeWrong, wordsWrong, fileWrong}
+use Rattle.benchfile.specs.File.{wordsIn, bodySize, sizeWrong, wordsWrong, fileWrong}
 use Rattle.drive.specs.Drive.{runFor}
 use Rattle.lines.specs.Lines.{callLine, accessLines, bufferLine, refusalLine}
 use Rattle.bench.specs.declared.call.Told.{Told}
@@ -42,9 +42,6 @@ abbrev pub rowText : List ℕ → List ℕ → List ℕ
 rowText rows bodies =
     let head : ℕ = getD rows 2 0 in
     callText (getD rows 0 0) (runIn (getD rows 0 0) (getD rows 1 0) (take head bodies) (take (getD rows 3 0) (drop head bodies)))
-
-abbrev pub bodySize : List ℕ → ℕ
-bodySize rows = getD rows 2 0 + getD rows 3 0
 
 -- n calls in turn
 unfoldable pub callsText : ℕ → List ℕ → List ℕ → List ℕ

@@ -2,9 +2,10 @@
 ghost use mathlib.Core.Path.{_≡_};
 ghost use lib.ListN.{length};
 ghost use Rattle.window.specs.Window.{laid, emitOf};
-ghost use Rattle.bench.specs.Text.{rowText, bodySize, callsText, tableText, wordsText, fileText};
+ghost use Rattle.bench.specs.Text.{rowText, callsText, tableText, wordsText, fileText};
 use crate::call::put_call;
 use benchfile::after;
+use benchfile::body_size;
 use benchfile::first;
 use benchfile::word;
 use window::Place;
@@ -28,12 +29,6 @@ fn put_row(p: Place, rows: &[u32], bodies: &[u32], out: &mut [u8]) -> Place
         first(after(bodies, head), answers),
         out,
     )
-}
-
-fn body_size(rows: &[u32]) -> usize
-    ensures { λ r. ⌜ r ≡ bodySize (now (rows .entry)) ⌝ }
-{
-    word(rows, 2) as usize + word(rows, 3) as usize
 }
 
 fn put_calls(p: Place, n: u32, rows: &[u32], bodies: &[u32], out: &mut [u8]) -> Place

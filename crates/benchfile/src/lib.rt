@@ -6,12 +6,12 @@ mod table;
 
 pub use buffer::lay;
 pub use head::describe;
-pub use head::is_call_wrong;
 pub use head::operations;
 pub use head::plain;
 pub use part::after;
 pub use part::first;
 pub use part::word;
+pub use table::body_size;
 pub use table::decode;
 pub use table::is_size_wrong;
 pub use table::is_wrong;

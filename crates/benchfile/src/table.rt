@@ -37,7 +37,7 @@ pub fn is_size_wrong(bytes: usize) -> bool
 }
 
 // How many words the body of a row's call has.
-fn body_size(row: &[u32]) -> usize
+pub fn body_size(row: &[u32]) -> usize
     ensures { λ r. ⌜ r ≡ bodySize (now (row .entry)) ⌝ }
 {
     word(row, 2) as usize + word(row, 3) as usize
