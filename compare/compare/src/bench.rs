@@ -21,11 +21,16 @@ const SHOWN: usize = 200;
 
 /// Compares random files. True if all went well.
 pub fn compare(files: u64, seed: u64, program: &str) -> io::Result<bool> {
-    println!("bench: {files} random files from seed {seed}");
+    println!(
+        "bench: the file with the longest text, and random ones from seed {seed}, {files} in all"
+    );
     let mut random = Random::new(seed);
     let mut counts = Counts::default();
-    for _ in 0..files {
-        let file = generate::file(&mut random);
+    for turn in 0..files {
+        let file = match turn {
+            0 => generate::longest(),
+            _ => generate::file(&mut random),
+        };
         let expected = text::of(&file);
         if given(program, &file)? != expected.text.as_bytes() {
             show(&file, program)?;

@@ -4,7 +4,7 @@ mod answers;
 pub mod build;
 pub mod case;
 pub mod chip;
-mod expected;
+pub mod expected;
 pub mod generate;
 mod program;
 pub mod run;

@@ -24,8 +24,8 @@ abbrev pub asFar : Driven → List ℕ → List ℕ → Far
 asFar t b out =
     record { report = t .report; saved = t .saved; buffer = b; used = t .used; accesses = t .accesses; laid = laid (t .place) out }
 
--- The run of a call: one advance over a log of so many places. It is the whole uncut run for as many answers as a sixth of
--- them less one (`run-ends` and `whole-run` in the crate `calls`).
+-- The run of a call: one advance over a log of so many places. With l answers it is the whole uncut run if 6 (l + 1) is not
+-- more (`whole-run` in the crate `calls`), as it is for every bench file.
 abbrev pub places : ℕ
 places = 131072
 

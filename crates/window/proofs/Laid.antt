@@ -8,8 +8,8 @@ use mathlib.Core.Path.{_≡_, refl, sym, ap, _∙_, subst⁻¹}
 use mathlib.Core.Bool.{Bool, true, false, cond, _&&_}
 use mathlib.Core.List.{List, [], _∷_, _++_}
 use lib.Dec.{T, eqb, leb, ltb}
-use lib.ListN.{length, getD, take, drop, set, replicate, length-append, length-set, length-take, drop-of-length-le}
-use lib.Seq.{drop-cons, take-nil, sets, sets-eq, take-append-seam, length-take-le}
+use lib.ListN.{length, getD, take, drop, set, replicate, length-append, length-set, length-take, length-drop, drop-of-length-le}
+use lib.Seq.{drop-cons, take-nil, sets, sets-eq, take-append-seam, length-take-le, drop-drop}
 use borrow.Author.Tests.{eqb-true, leb-true, le-leb, lt-ltb, le-ltb}
 use Rattle.window.specs.Window.{Laid, laid, startOf, full, putOf, emitOf, Shown, shownOf, windowOf, asShown}
 use Rattle.window.specs.declared.Place.{Place}
@@ -133,3 +133,19 @@ module _ (t bytes : List ℕ) (n : ℕ) (bytes′ : List ℕ) (E : asShown n byt
 
   pub counted : n ≡ length (take n bytes′)
   counted = sym (length-take-le n bytes′ room)
+
+-- ---- windows in turn, each beginning where the last one ended: together they are the text, up to one with room to spare
+pub in-turn : (from : ℕ) (t bytes : List ℕ) → drop from t ≡ shownOf from t bytes ++ drop (from + length (shownOf from t bytes)) t
+in-turn from t bytes = sym (rw (← drop-drop (length (shownOf from t bytes)) from t) (go (drop from t) (length bytes)))
+  where
+    go : (s : List ℕ) (n : ℕ) → take n s ++ drop (length (take n s)) s ≡ s
+    go [] zero = refl
+    go [] (suc n) = refl
+    go (b ∷ s) zero = refl
+    go (b ∷ s) (suc n) = ap (λ (l : List ℕ). b ∷ l) (go s n)
+
+pub last-one : (from : ℕ) (t bytes : List ℕ) → length (shownOf from t bytes) < length bytes → drop (from + length (shownOf from t bytes)) t ≡ []
+last-one from t bytes h =
+    let few = simp (length-take, length-drop) at h in
+    let e : length t ≤ from + length (shownOf from t bytes) = simp (length-take, length-drop) (omega (arith, few)) in
+    drop-of-length-le t e

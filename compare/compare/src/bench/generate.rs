@@ -51,6 +51,17 @@ pub fn file(random: &mut Random) -> Vec<u8> {
     file
 }
 
+/// The file with the longest text: as many calls as there may be, each with the longest buffer. Its text takes the program
+/// several windows, which no random file does.
+pub fn longest() -> Vec<u8> {
+    let case = Case {
+        buffer: vec![0; 65_535],
+        answers: [5, 0x41].repeat(125),
+        ..call(9)
+    };
+    entry::write(&vec![meaning::entry(&case); 64])
+}
+
 /// Calls that a file can have, but now and then one too many.
 fn entries(random: &mut Random) -> Vec<Entry> {
     let (count, most) = match random.up_to(31) {

@@ -22,6 +22,20 @@ pub fn text(run: &Run) -> String {
     text
 }
 
+/// The run that document 01 prints.
+#[cfg(test)]
+pub const DOCUMENT_01: &str = "7 done 0 5 9\n\
+                               w 04 020220A0\n\
+                               r 18 00000001\n\
+                               r 04 020200A0\n\
+                               r 18 00000003\n\
+                               w 28 00000012\n\
+                               r 18 00000003\n\
+                               w 28 00000034\n\
+                               r 18 00000021\n\
+                               w 1C 00000020\n\
+                               b 1234\n";
+
 #[cfg(test)]
 mod tests {
     use super::*;
@@ -39,19 +53,7 @@ mod tests {
             buffer: vec![0x12, 0x34],
             answers: vec![1, 0x0202_00A0, 3, 3, 0x21],
         };
-        let expected = "7 done 0 5 9\n\
-                        w 04 020220A0\n\
-                        r 18 00000001\n\
-                        r 04 020200A0\n\
-                        r 18 00000003\n\
-                        w 28 00000012\n\
-                        r 18 00000003\n\
-                        w 28 00000034\n\
-                        r 18 00000021\n\
-                        w 1C 00000020\n\
-                        b 1234\n\
-                        answers same 7\n\
-                        places same 10\n";
+        let expected = format!("{DOCUMENT_01}answers same 7\nplaces same 10\n");
         assert_eq!(of(&case), expected);
     }
 
