@@ -1,32 +1,34 @@
 // A bench file as text: laid out for a person where the bodies are as long as the table of contents says, else as bare words.
 use crate::names;
-use crate::part;
 use crate::show;
+use benchfile::after;
+use benchfile::body_size;
+use benchfile::first;
+use benchfile::word;
 
 // The most words of a body on a line.
 const ACROSS: usize = 8;
 
-// The row of the call at a place, counted from 0: its number, its argument, its head words and its answer words.
-fn row(file: &[u8], place: u32) -> &[u8] {
-    part::after(file, 1 + 4 * place as usize)
-}
+// The words of the longest bench file.
+const WORDS: usize = 16384;
 
-fn size(row: &[u8]) -> usize {
-    part::word(row, 2) as usize + part::word(row, 3) as usize
+// The row of the call at a place, counted from 0: its number, its argument, its head words and its answer words.
+fn row(words: &[u32], place: u32) -> &[u32] {
+    after(words, 1 + 4 * place as usize)
 }
 
 // Whether the table is there and the bodies, which follow it, are as long as it says.
-fn is_as_told(file: &[u8], count: u32) -> bool {
-    if part::size(file) <= 4 * count as usize {
+fn is_as_told(words: &[u32], count: u32) -> bool {
+    if words.len() <= 4 * count as usize {
         return false;
     }
-    let mut rest = row(file, count);
+    let mut rest = row(words, count);
     for i in 0..count {
-        let n = size(row(file, i));
-        if part::size(rest) < n {
+        let n = body_size(row(words, i));
+        if rest.len() < n {
             return false;
         }
-        let next = part::after(rest, n);
+        let next = after(rest, n);
         rest = next;
     }
     rest.len() == 0
@@ -50,10 +52,10 @@ fn show_gap(before: usize) {
     }
 }
 
-fn show_words(words: &[u8], hex: bool) {
-    for i in 0..part::size(words) {
+fn show_words(words: &[u32], hex: bool) {
+    for i in 0..words.len() {
         show_gap(i);
-        show_word(part::word(words, i), hex);
+        show_word(words[i], hex);
     }
     if words.len() > 0 {
         show::text(b"\n");
@@ -61,20 +63,20 @@ fn show_words(words: &[u8], hex: bool) {
 }
 
 // `# 3: transaction`, counted from 1.
-fn show_name(row: &[u8], place: u32) {
+fn show_name(row: &[u32], place: u32) {
     show::text(b"# ");
     show::decimal(place as u64 + 1);
     show::text(b": ");
-    names::show(part::word(row, 0));
+    names::show(word(row, 0));
     show::text(b"\n");
 }
 
-fn show_column(row: &[u8], i: usize) {
-    show::decimal(part::word(row, i) as u64);
+fn show_column(row: &[u32], i: usize) {
+    show::decimal(word(row, i) as u64);
     show::text(b" ");
 }
 
-fn show_row(row: &[u8], place: u32) {
+fn show_row(row: &[u32], place: u32) {
     show_column(row, 0);
     show_column(row, 1);
     show_column(row, 2);
@@ -82,43 +84,58 @@ fn show_row(row: &[u8], place: u32) {
     show_name(row, place);
 }
 
-fn show_rows(file: &[u8], count: u32) {
+fn show_rows(words: &[u32], count: u32) {
     for i in 0..count {
-        show_row(row(file, i), i);
+        show_row(row(words, i), i);
     }
 }
 
-fn show_body(row: &[u8], place: u32, body: &[u8]) {
+fn show_body(row: &[u32], place: u32, body: &[u32]) {
     show::text(b"\n");
     show_name(row, place);
-    let heads = part::word(row, 2) as usize;
-    show_words(part::first(body, heads), false);
-    show_words(part::after(body, heads), true);
+    let heads = word(row, 2) as usize;
+    show_words(first(body, heads), false);
+    show_words(after(body, heads), true);
 }
 
-fn show_bodies(file: &[u8], count: u32) {
-    let mut rest = row(file, count);
+fn show_bodies(words: &[u32], count: u32) {
+    let mut rest = row(words, count);
     for i in 0..count {
-        let n = size(row(file, i));
-        show_body(row(file, i), i, part::first(rest, n));
-        let next = part::after(rest, n);
+        let n = body_size(row(words, i));
+        show_body(row(words, i), i, first(rest, n));
+        let next = after(rest, n);
         rest = next;
     }
 }
 
-fn show_calls(file: &[u8], count: u32) {
+fn show_calls(words: &[u32], count: u32) {
     show::decimal(count as u64);
     show::text(b" # calls: number, argument, heads, answers\n");
-    show_rows(file, count);
-    show_bodies(file, count);
+    show_rows(words, count);
+    show_bodies(words, count);
+}
+
+fn show_file(words: &[u32]) {
+    let count = word(words, 0);
+    if is_as_told(words, count) {
+        show_calls(words, count);
+    } else {
+        show::text(b"# the lengths disagree\n");
+        show_words(words, true);
+    }
+}
+
+// The room goes by its array type to these two, so that nothing has to be shown of its length.
+fn decode(file: &[u8], room: &mut [u32; WORDS]) -> usize {
+    benchfile::decode(file, room)
+}
+
+fn show_room(room: &[u32; WORDS], n: usize) {
+    show_file(first(room, n));
 }
 
 pub fn write_text(file: &[u8]) {
-    let count = part::word(file, 0);
-    if is_as_told(file, count) {
-        show_calls(file, count);
-    } else {
-        show::text(b"# the lengths disagree\n");
-        show_words(file, true);
-    }
+    let mut room = [0u32; WORDS];
+    let n = decode(file, &mut room);
+    show_room(&room, n);
 }

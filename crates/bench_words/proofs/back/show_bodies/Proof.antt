@@ -5,10 +5,10 @@ use Rattle.bench_words.proofs.back.show_bodies.Statement.{statement}
 use Rattle.bench_words.proofs.back.show_bodies.Tie as tie
 
 abbrev Inv-loop : tie.InvT-loop
-Inv-loop file count rest₀ i₀ rest i = Unit {0}
+Inv-loop words count rest₀ i₀ rest i = Unit {0}
 
 abbrev μ-loop : tie.MeasureT-loop
-μ-loop file count rest₀ i₀ rest i = count - i
+μ-loop words count rest₀ i₀ rest i = count - i
 
 pub show-bodies-spec : {M : Type 1} → statement M
 show-bodies-spec =

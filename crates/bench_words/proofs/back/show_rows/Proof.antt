@@ -5,10 +5,10 @@ use Rattle.bench_words.proofs.back.show_rows.Statement.{statement}
 use Rattle.bench_words.proofs.back.show_rows.Tie as tie
 
 abbrev Inv-loop : tie.InvT-loop
-Inv-loop file count i₀ i = Unit {0}
+Inv-loop words count i₀ i = Unit {0}
 
 abbrev μ-loop : tie.MeasureT-loop
-μ-loop file count i₀ i = count - i
+μ-loop words count i₀ i = count - i
 
 pub show-rows-spec : {M : Type 1} → statement M
 show-rows-spec =
