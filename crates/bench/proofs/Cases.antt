@@ -3,7 +3,8 @@ use Prim.Native.Nat.{ℕ, _/_, _%_}
 use mathlib.Core.Path.{_≡_, refl}
 use mathlib.Core.List.{List, [], _∷_}
 use Rattle.benchfile.specs.Calls.{plain, hasArgument, argumentWrong, listWrong, transactionWrong, headWrong, callWrong, descriptionOf, operationsOf, wholeBuffer}
-use Rattle.benchfile.specs.File.{wordsIn, rowWrong, rowsWrong, tableWrong, wordsWrong, sizeWrong}
+use Rattle.benchfile.specs.File.{rowWrong, rowsWrong, tableWrong, wordsWrong, sizeWrong}
+use Rattle.words.specs.Words.{wordsIn}
 use Rattle.calls.specs.Calls.{call, kinds, manual}
 use Rattle.calls.specs.Pieces.{piecesFor}
 use Rattle.calls.specs.Refusals.{lookupOf, verdictOf, checkOf, hasIn, accepts}

@@ -9,7 +9,9 @@ use lib.ListN.{length, getD, take, drop, length-take, length-drop}
 use lib.Seq.{take-all}
 use borrow.Author.Tests.{ltb-false}
 use Rattle.benchfile.specs.Calls.{plain, descriptionOf, operationsOf, lentBuffer}
-use Rattle.benchfile.specs.File.{wordsFrom, wordsIn, bodySize, sizeWrong, wordsWrong, fileWrong}
+use Rattle.benchfile.specs.File.{bodySize, sizeWrong, wordsWrong, fileWrong}
+use Rattle.words.proofs.Turns.{length-words}
+use Rattle.words.specs.Words.{wordsIn}
 use Rattle.calls.proofs.Ends.{whole-run}
 use Rattle.drive.specs.Drive.{places}
 use Rattle.window.proofs.Laid.{front}
@@ -19,10 +21,6 @@ use Rattle.bench.specs.Text.{CallsWhole, EveryWhole}
 neither : (a b : Bool) → (a || b) ≡ false → a ≡ false
 neither true b h = absurd (subst T h tt)
 neither false b h = refl
-
-length-words : (n : ℕ) (file : List ℕ) → length (wordsFrom n file) ≡ n
-length-words zero file = refl
-length-words (suc n) file = ap suc (length-words n (drop 4 file))
 
 few-words : (file : List ℕ) → sizeWrong (length file) ≡ false → length (wordsIn file) ≤ 16384
 unfolding sizeWrong wordsIn

@@ -11,7 +11,8 @@ use Rattle.calls.specs.Run.{Run, wordsOf}
 use Rattle.calls.specs.Whole.{WholeCall}
 use Rattle.calls.specs.declared.Description.{Description}
 use Rattle.benchfile.specs.Calls.{plain, descriptionOf, operationsOf, lentBuffer}
-use Rattle.benchfile.specs.File.{wordsIn, bodySize, sizeWrong, wordsWrong, fileWrong}
+use Rattle.benchfile.specs.File.{bodySize, sizeWrong, wordsWrong, fileWrong}
+use Rattle.words.specs.Words.{wordsIn}
 use Rattle.drive.specs.Drive.{runFor}
 use Rattle.lines.specs.Lines.{callLine, accessLines, bufferLine, refusalLine}
 use Rattle.bench.specs.declared.call.Told.{Told}

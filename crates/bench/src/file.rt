@@ -77,6 +77,6 @@ pub fn put_file(p: Place, file: &[u8], out: &mut [u8]) -> Place
         return lines::put_refusal(p, out);
     }
     let mut words = room();
-    let n = benchfile::decode(file, &mut words);
+    let n = words::decode(file, &mut words);
     put_words(p, &words[..n], out)
 }

@@ -127,7 +127,7 @@ fn show_file(words: &[u32]) {
 
 // The room goes by its array type to these two, so that nothing has to be shown of its length.
 fn decode(file: &[u8], room: &mut [u32; WORDS]) -> usize {
-    benchfile::decode(file, room)
+    words::decode(file, room)
 }
 
 fn show_room(room: &[u32; WORDS], n: usize) {

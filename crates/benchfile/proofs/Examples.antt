@@ -7,7 +7,8 @@ use lib.ListN.{replicate}
 use Rattle.fields.specs.Field.{getOf, bitsAt}
 use Rattle.benchfile.specs.Calls.{plain, hasArgument, argumentWrong, listWrong, transactionWrong, configWrong, headWrong}
 use Rattle.benchfile.specs.Calls.{callWrong, operationsOf, wholeBuffer, lentBuffer}
-use Rattle.benchfile.specs.File.{rowWrong, rowsWrong, tableWrong, wordsWrong, wordsIn}
+use Rattle.benchfile.specs.File.{rowWrong, rowsWrong, tableWrong, wordsWrong}
+use Rattle.words.specs.Words.{wordsIn}
 
 -- document 01's run
 run : List ℕ

@@ -1,6 +1,6 @@
 pub mod Parts
 pub mod Branch
 pub mod Lists
-pub mod Words
+pub mod Rows
 pub mod Bytes
 pub mod Examples

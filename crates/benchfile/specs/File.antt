@@ -1,22 +1,11 @@
 -- A bench file: a table of contents, then the bodies of its calls, head before answers (document 01, "Bench"). Assumes nothing.
-use Prim.Native.Nat.{ℕ, zero, suc, _+_, _*_, _/_, _%_}
+use Prim.Native.Nat.{ℕ, zero, suc, _+_, _*_, _%_}
 use mathlib.Core.Bool.{Bool, not, _||_}
 use mathlib.Core.List.{List, [], _∷_}
 use lib.Dec.{eqb, ltb}
 use lib.ListN.{length, getD, take, drop}
+use Rattle.words.specs.Words.{wordsIn}
 use Rattle.benchfile.specs.Calls.{callWrong}
-
--- little-endian words
-abbrev pub wordOf : ℕ → ℕ → ℕ → ℕ → ℕ
-wordOf a b c d = a + 256 * b + 65536 * c + 16777216 * d
-
--- the first n
-abbrev pub wordsFrom : ℕ → List ℕ → List ℕ
-wordsFrom zero file = []
-wordsFrom (suc n) file = wordOf (getD file 0 0) (getD file 1 0) (getD file 2 0) (getD file 3 0) ∷ wordsFrom n (drop 4 file)
-
-unfoldable pub wordsIn : List ℕ → List ℕ
-wordsIn file = wordsFrom (length file / 4) file
 
 -- A row of the table: a call's number, its argument, how many head words it has and how many answer words. The bodies have
 -- to be as long as the rows say.

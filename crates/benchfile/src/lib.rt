@@ -12,6 +12,5 @@ pub use part::after;
 pub use part::first;
 pub use part::word;
 pub use table::body_size;
-pub use table::decode;
 pub use table::is_size_wrong;
 pub use table::is_wrong;

@@ -1,34 +1,10 @@
-// A file's words, its table of contents and its bodies.
+// A file's table of contents and its bodies.
 ghost use mathlib.Core.Path.{_≡_};
-ghost use Rattle.window.specs.Window.{asShown, windowOf};
-ghost use Rattle.benchfile.specs.File.{wordOf, wordsIn, bodySize, rowWrong, rowsWrong, tableWrong, wordsWrong, sizeWrong};
+ghost use Rattle.benchfile.specs.File.{bodySize, rowWrong, rowsWrong, tableWrong, wordsWrong, sizeWrong};
 use crate::head::is_call_wrong;
 use crate::part::after;
 use crate::part::first;
 use crate::part::word;
-
-fn word_of(a: u8, b: u8, c: u8, d: u8) -> u32
-    ensures { λ r. ⌜ r ≡ wordOf a b c d ⌝ }
-{
-    a as u32 + 256 * b as u32 + 65_536 * c as u32 + 16_777_216 * d as u32
-}
-
-// Puts the words of a file at the start of `words`, as many as there is room for, and says how many.
-pub fn decode(file: &[u8], words: &mut [u32]) -> usize
-    ensures { λ r. ⌜ asShown r (now (words .exit)) ≡ windowOf 0 (wordsIn (now (file .entry))) (now (words .entry)) ⌝ }
-{
-    let mut n = 0;
-    let mut rest = file;
-    while 4 <= rest.len() {
-        if words.len() <= n {
-            return n;
-        }
-        words[n] = word_of(rest[0], rest[1], rest[2], rest[3]);
-        rest = &rest[4..];
-        n += 1;
-    }
-    n
-}
 
 pub fn is_size_wrong(bytes: usize) -> bool
     ensures { λ r. ⌜ r ≡ sizeWrong bytes ⌝ }

@@ -2,7 +2,7 @@
 use mathlib.Core.Path.{_≡_}
 use borrow.Author.Needs.{needs}
 use Rattle.benchfile.specs.File.{rowsWrong}
-use Rattle.benchfile.proofs.Words.{turns}
+use Rattle.benchfile.proofs.Rows.{turns}
 use Rattle.benchfile.proofs.table.is_rows_wrong.Statement.{statement}
 use Rattle.benchfile.proofs.table.is_rows_wrong.Tie as tie
 

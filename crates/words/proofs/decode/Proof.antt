@@ -1,20 +1,20 @@
--- `benchfile::table::decode` meets its contract. The invariant: the words of what is left of the file, put after the n words
+-- `words::decode` meets its contract. The invariant: the words of what is left of the bytes, put after the n words
 -- before them, are the whole. Assumes nothing.
+use Rattle.words.proofs.decode.Statement.{statement}
+use Rattle.words.proofs.decode.Tie as tie
+use borrow.Author.Needs.{needs}
 use mathlib.Core.Path.{_≡_}
 use lib.ListN.{length}
-use borrow.Author.Needs.{needs}
 use Rattle.window.specs.Window.{emitOf}
-use Rattle.benchfile.specs.File.{wordsIn}
-use Rattle.benchfile.proofs.Words.{placed, decodes}
-use Rattle.benchfile.proofs.table.decode.Statement.{statement}
-use Rattle.benchfile.proofs.table.decode.Tie as tie
+use Rattle.words.specs.Words.{wordsIn}
+use Rattle.words.proofs.Turns.{placed, decodes}
 
 abbrev Inv-loop : tie.InvT-loop
-Inv-loop file words₀ n₀ rest₀ words n rest =
-    (length words ≡ length words₀) × (emitOf (wordsIn rest) (placed n words) ≡ emitOf (wordsIn file) (placed 0 words₀))
+Inv-loop bytes words₀ n₀ rest₀ words n rest =
+    (length words ≡ length words₀) × (emitOf (wordsIn rest) (placed n words) ≡ emitOf (wordsIn bytes) (placed 0 words₀))
 
 abbrev μ-loop : tie.MeasureT-loop
-μ-loop file words₀ n₀ rest₀ words n rest = length rest
+μ-loop bytes words₀ n₀ rest₀ words n rest = length rest
 
 pub decode-spec : {M : Type 1} → statement M
 decode-spec =
