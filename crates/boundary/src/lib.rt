@@ -1,14 +1,23 @@
-// The driver for C and Rust callers: functions on numbers, under names with a prefix. `compare` and the firmware link it.
+// The driver for C and Rust callers: functions on numbers and byte slices, under names with a prefix. `compare` and the
+// firmware link it, and include/huskerivory.h says the same to a C programmer.
 ghost use mathlib.Core.Path.{_≡_};
+ghost use lib.ListN.{length};
 ghost use Rattle.timing.specs.Bands.{timingOf};
 ghost use Rattle.timing.specs.Refusals.{numberOf};
 ghost use Rattle.timing.specs.Timingr.{packOf, unpackOf};
+ghost use Rattle.boundary.specs.Calls.{descriptionOf, operationsIn, asBegin, beginIn, accessIn, asFinal, finalIn};
 ghost use Rattle.boundary.specs.Timing.{answer, packedAnswer, packedTimed, timedAnswer, timingFrom, fieldsFrom};
+use call::AccessAnswer;
+use call::AdvanceAnswer;
+use call::CallDescription;
 use timing::I2cTiming;
 use timing::Packed;
 use timing::RawTimingr;
 use timing::Refusal;
 use timing::Timed;
+
+mod call;
+mod run;
 
 // A TIMINGR word, or the number of a refusal and word 0.
 #[repr(C)]
@@ -97,4 +106,65 @@ pub extern "C" fn huskerivory_unpack(timingr: u32) -> TimingFields
         sclh: t.sclh,
         scll: t.scll,
     }
+}
+
+// Words read from bytes: an operation list, as far as it is looked at.
+fn list() -> [u32; 65]
+    ensures { λ r. ⌜ length r ≡ 65 ⌝ }
+{
+    [0; 65]
+}
+
+// Begins a call. 0, or the number of the refusal.
+#[no_mangle]
+pub extern "C" fn huskerivory_begin(
+    description: CallDescription,
+    operations: &[u8],
+    buffer: &[u8],
+    saved: &mut [u8],
+) -> u32
+    ensures { λ r. ⌜ asBegin r (now (saved .exit)) ≡ beginIn (descriptionOf description) (operationsIn (now (operations .entry))) (length (now (buffer .entry))) (now (saved .entry)) ⌝ }
+{
+    let mut ops = list();
+    let n = words::decode(operations, &mut ops);
+    call::begin(call::describe(description), &ops[..n], buffer, saved)
+}
+
+// Advances a call with answers, and leaves its accesses in the log.
+#[no_mangle]
+pub extern "C" fn huskerivory_advance(
+    description: CallDescription,
+    operations: &[u8],
+    saved: &mut [u8],
+    buffer: &mut [u8],
+    answers: &[u8],
+    log: &mut [u8],
+) -> AdvanceAnswer
+    ensures { λ r. ⌜ asFinal r (now (saved .exit)) (now (buffer .exit)) (now (log .exit)) ≡ finalIn (descriptionOf description) (operationsIn (now (operations .entry))) (now (saved .entry)) (now (buffer .entry)) (now (answers .entry)) (now (log .entry)) ⌝ }
+{
+    let mut ops = list();
+    let n = words::decode(operations, &mut ops);
+    call::advance(
+        call::describe(description),
+        &ops[..n],
+        saved,
+        buffer,
+        answers,
+        log,
+    )
+}
+
+// The access that the next advance makes first.
+#[no_mangle]
+pub extern "C" fn huskerivory_next(
+    description: CallDescription,
+    operations: &[u8],
+    saved: &[u8],
+    buffer: &[u8],
+) -> AccessAnswer
+    ensures { λ r. ⌜ r ≡ accessIn (descriptionOf description) (operationsIn (now (operations .entry))) (now (saved .entry)) (now (buffer .entry)) ⌝ }
+{
+    let mut ops = list();
+    let n = words::decode(operations, &mut ops);
+    call::next(call::describe(description), &ops[..n], saved, buffer)
 }

@@ -1,0 +1,23 @@
+-- `huskerivory_advance` meets its contract. Assumes nothing.
+use Rattle.boundary.proofs.huskerivory_advance.Statement.{statement}
+use Rattle.boundary.proofs.huskerivory_advance.Tie as tie
+use borrow.Author.Needs.{needs}
+use mathlib.Core.Path.{_∙_}
+use Rattle.boundary.proofs.Answers.{listed}
+use Rattle.window.proofs.Laid.{room, counted}
+
+pub huskerivory-advance-spec : {M : Type 1} → statement M
+huskerivory-advance-spec =
+    tie.close
+    (tie.spec
+    (λ c κs. search needs)
+    (λ c. search needs)
+    (λ c κs. search needs)
+    (λ c κs. search needs)
+    (λ c. room _ _ _ _ (c .before .before .decode .ensures))
+    (λ c. counted _ _ _ _ (c .before .before .before .decode .ensures))
+    (λ c κs. search needs)
+    (λ c. search needs)
+    (λ c. search needs)
+    (λ c. search needs)
+    (λ c. c .before .before .before .before .before .before .advance .ensures ∙ rw (listed (c .before .before .before .before .before .before .before .before .before .before .before .before .before .before .before .before .before .before .before .before .before .args .operations .now) _ _ _ (c .before .before .before .before .before .before .before .before .before .before .before .before .before .before .before .list .ensures) (c .before .before .before .before .before .before .before .before .before .before .before .before .before .decode .ensures), c .before .before .before .before .before .before .before .before .before .before .before .describe .ensures)))

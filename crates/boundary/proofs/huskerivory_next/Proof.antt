@@ -1,0 +1,20 @@
+-- `huskerivory_next` meets its contract. Assumes nothing.
+use Rattle.boundary.proofs.huskerivory_next.Statement.{statement}
+use Rattle.boundary.proofs.huskerivory_next.Tie as tie
+use borrow.Author.Needs.{needs}
+use Rattle.boundary.proofs.Answers.{listed}
+use Rattle.window.proofs.Laid.{room, counted}
+use mathlib.Core.Path.{_∙_}
+
+pub huskerivory-next-spec : {M : Type 1} → statement M
+huskerivory-next-spec =
+    tie.close
+    (tie.spec
+    (λ c κs. search needs)
+    (λ c. search needs)
+    (λ c κs. search needs)
+    (λ c κs. search needs)
+    (λ c. room _ _ _ _ (c .before .before .decode .ensures))
+    (λ c. counted _ _ _ _ (c .before .before .before .decode .ensures))
+    (λ c κs. search needs)
+    (λ c. c .next .ensures ∙ rw (listed (c .before .before .before .before .before .before .before .before .before .before .args .operations .now) _ _ _ (c .before .before .before .before .before .before .list .ensures) (c .before .before .before .before .decode .ensures), c .before .before .describe .ensures)))

@@ -1,0 +1,121 @@
+-- What the C boundary gives for a call: the core's begin, advance and next access over what the bytes mean. Assumes nothing.
+use Prim.Native.Nat.{ℕ, _+_, _*_, _/_}
+use mathlib.Core.Bool.{Bool, true, false, cond, not}
+use mathlib.Core.List.{List, [], _∷_, _++_}
+use lib.Dec.{eqb}
+use lib.ListN.{length, take, drop}
+use Rattle.registers.specs.Map.{offsetOf}
+use Rattle.words.specs.Words.{wordsIn, bytesOf}
+use Rattle.saved.specs.Saved.{savedIn, writtenTo}
+use Rattle.calls.specs.Advances.{isRefusal}
+use Rattle.calls.specs.Outcomes.{refusalNumber, reportNumber, reportValue}
+use Rattle.calls.specs.Run.{Entry, wordsOf, Run, begunOf, runOf}
+use Rattle.calls.specs.declared.Begun.{Begun}
+use Rattle.calls.specs.declared.Description.{Description}
+use Rattle.calls.specs.declared.Next.{Next}
+use Rattle.calls.specs.declared.Next.the-variants.{Over, Read, Write, Refused}
+use Rattle.calls.specs.declared.Report.{Report}
+use Rattle.calls.specs.declared.Report.the-variants as report
+use Rattle.calls.specs.declared.Verdict.{Verdict}
+use Rattle.calls.specs.declared.Verdict.the-variants.{Accepted, Refused as Rejected}
+use Rattle.calls.specs.declared.View.{View}
+use Rattle.driver.specs.Next.{nextFor}
+use Rattle.boundary.specs.declared.call.AccessAnswer.{AccessAnswer}
+use Rattle.boundary.specs.declared.call.AdvanceAnswer.{AdvanceAnswer}
+use Rattle.boundary.specs.declared.call.CallDescription.{CallDescription}
+
+-- ---- What is asked. A number that says yes or no says yes if it is not 0.
+abbrev pub yes : ℕ → Bool
+yes n = not (eqb n 0)
+
+abbrev pub descriptionOf : CallDescription → Description
+descriptionOf a =
+    record {
+      call = a .call;
+      address = a .address;
+      listen = a .listen;
+      timing = record { 0 = a .timingr };
+      config = record { own = a .own; secondary = a .secondary; mask = a .mask; ten = yes (a .«own_ten») };
+      ten = yes (a .ten);
+      configured = yes (a .configured);
+    }
+
+-- Of an operation list 65 words are read: more than 64 are refused, whatever follows.
+abbrev pub operationsIn : List ℕ → List ℕ
+operationsIn bytes = take 65 (wordsIn bytes)
+
+-- ---- Begin: 0 or the number of the refusal, and the saved call as bytes. A place for it that has not 32 bytes is refused as 13,
+-- after what is wrong with the description, and left as it is.
+abbrev pub verdictNumber : Verdict → ℕ → ℕ
+verdictNumber (Rejected r) n = refusalNumber r
+verdictNumber (Accepted c) n = cond (eqb n 32) 0 13
+
+pub record Begin : Type 0 where
+  pub refusal : ℕ
+  pub saved : List ℕ
+
+abbrev pub asBegin : ℕ → List ℕ → Begin
+asBegin n saved = record { refusal = n; saved = saved }
+
+abbrev pub beginBy : Begun → List ℕ → Begin
+beginBy B saved = asBegin (verdictNumber (B .verdict) (length saved)) (writtenTo saved (B .saved))
+
+abbrev pub beginIn : Description → List ℕ → ℕ → List ℕ → Begin
+beginIn d ops n saved = beginBy (begunOf d ops n) saved
+
+-- ---- The next access: 0 over, 1 a read, 2 a write, 3 refused; and the register's offset or the refusal's number.
+abbrev pub access : ℕ → ℕ → AccessAnswer
+access kind value = record { kind = kind; value = value }
+
+abbrev pub accessAnswer : Next → AccessAnswer
+accessAnswer Over = access 0 0
+accessAnswer (Read r) = access 1 (offsetOf r)
+accessAnswer (Write r) = access 2 (offsetOf r)
+accessAnswer (Refused why) = access 3 (refusalNumber why)
+
+abbrev pub accessIn : Description → List ℕ → List ℕ → List ℕ → AccessAnswer
+accessIn d ops saved b = accessAnswer (nextFor d ops (savedIn saved) b)
+
+-- ---- Advance: its report by document 01's numbers, and for `waiting` the offset of the register whose word is awaited. A refused
+-- one leaves all bytes as they were. A place of the log is eight bytes; its entries stand first, the other bytes are as they were.
+abbrev pub awaitedBy : Report → Next → ℕ
+awaitedBy report.Waiting next = accessAnswer next .value
+awaitedBy (report.Over o) next = 0
+awaitedBy report.Full next = 0
+awaitedBy (report.Refused r) next = 0
+
+pub record Final : Type 0 where
+  pub answer : AdvanceAnswer
+  pub saved : List ℕ
+  pub buffer : List ℕ
+  pub log : List ℕ
+
+abbrev pub asFinal : AdvanceAnswer → List ℕ → List ℕ → List ℕ → Final
+asFinal a saved b log = record { answer = a; saved = saved; buffer = b; log = log }
+
+abbrev pub logAfter : List Entry → List ℕ → List ℕ
+logAfter es log = bytesOf (wordsOf es) ++ drop (8 * length es) log
+
+abbrev pub finalBy : Description → List ℕ → Run → List ℕ → List ℕ → Final
+finalBy d ops R saved log =
+    record {
+      answer =
+          record {
+            report = reportNumber (R .report);
+            value = reportValue (R .report);
+            awaited = awaitedBy (R .report) (nextFor d ops (R .saved) (R .buffer));
+            used = R .used;
+            written = length (R .entries);
+          };
+      saved = cond (isRefusal (R .report)) saved (writtenTo saved (R .saved));
+      buffer = R .buffer;
+      log = logAfter (R .entries) log;
+    }
+
+abbrev pub finalIn : Description → List ℕ → List ℕ → List ℕ → List ℕ → List ℕ → Final
+finalIn d ops saved b answers log =
+    finalBy d ops (runOf d ops (length log / 8) (savedIn saved) b (wordsIn answers)) saved log
+
+-- a piece whose bytes are read: where a call waits, BYTE reads
+abbrev pub readingView : View
+readingView = record { start = 0; size = 0; reads = true; last = false; same = false; reload = false; some = false }

@@ -1,0 +1,235 @@
+// A call's description, its answers and its entries, over lists of words that were read from bytes.
+ghost use mathlib.Core.Path.{_≡_};
+ghost use mathlib.Core.Bool.{cond};
+ghost use mathlib.Core.List.{List};
+ghost use Prim.Native.Nat.{ℕ};
+ghost use lib.Dec.{eqb};
+ghost use lib.ListN.{length};
+ghost use Rattle.access.specs.Next.{nextOf};
+ghost use Rattle.calls.specs.Advances.{isRefusal};
+ghost use Rattle.calls.specs.Outcomes.{refusalNumber, reportNumber, reportValue};
+ghost use Rattle.calls.specs.Steps.{accessAt};
+ghost use Rattle.saved.specs.Saved.{writtenTo};
+ghost use Rattle.boundary.specs.Calls.{descriptionOf, verdictNumber, asBegin, beginIn, accessAnswer, accessIn, asFinal, finalIn, awaitedBy, readingView};
+use crate::run;
+use calls::Call;
+use calls::Description;
+use calls::Next;
+use calls::Refusal;
+use calls::Report;
+use calls::SavedCall;
+use calls::TargetConfig;
+use calls::Verdict;
+use calls::View;
+use timing::RawTimingr;
+
+// What is asked, in numbers. A call looks only at those that belong to it.
+#[repr(C)]
+pub struct CallDescription {
+    pub call: u32,
+    pub address: u32,
+    pub ten: u32,
+    pub listen: u32,
+    pub timingr: u32,
+    pub configured: u32,
+    pub own: u32,
+    pub own_ten: u32,
+    pub secondary: u32,
+    pub mask: u32,
+}
+
+// How an advance came out, in numbers.
+#[repr(C)]
+pub struct AdvanceAnswer {
+    pub report: u32,
+    pub value: u32,
+    pub awaited: u32,
+    pub used: usize,
+    pub written: usize,
+}
+
+#[repr(C)]
+pub struct AccessAnswer {
+    pub kind: u32,
+    pub value: u32,
+}
+
+pub fn describe(a: CallDescription) -> Description
+    ensures { λ r. ⌜ r ≡ descriptionOf a ⌝ }
+{
+    Description {
+        call: a.call,
+        address: a.address,
+        listen: a.listen,
+        timing: RawTimingr(a.timingr),
+        config: TargetConfig {
+            own: a.own,
+            secondary: a.secondary,
+            mask: a.mask,
+            ten: a.own_ten != 0,
+        },
+        ten: a.ten != 0,
+        configured: a.configured != 0,
+    }
+}
+
+fn refusal_number(why: Refusal) -> u32
+    ensures { λ r. ⌜ r ≡ refusalNumber why ⌝ }
+{
+    match why {
+        Refusal::Address => 8,
+        Refusal::Long => 9,
+        Refusal::List => 10,
+        Refusal::Buffer => 11,
+        Refusal::NoSuchCall => 12,
+        Refusal::SavedCall => 13,
+    }
+}
+
+// A place for a saved call has 32 bytes.
+fn place_number(n: usize) -> u32
+    ensures { λ r. ⌜ r ≡ cond (eqb n 32) 0 13 ⌝ }
+{
+    if n == 32 { 0 } else { 13 }
+}
+
+fn verdict_number(v: Verdict, n: usize) -> u32
+    ensures { λ r. ⌜ r ≡ verdictNumber v n ⌝ }
+{
+    match v {
+        Verdict::Accepted(_) => place_number(n),
+        Verdict::Refused(why) => refusal_number(why),
+    }
+}
+
+pub fn begin(d: Description, ops: &[u32], buffer: &[u8], saved: &mut [u8]) -> u32
+    ensures { λ r. ⌜ asBegin r (now (saved .exit)) ≡ beginIn d (now (ops .entry)) (length (now (buffer .entry))) (now (saved .entry)) ⌝ }
+{
+    let begun = driver::begin(d, ops, buffer);
+    let call = begun.saved;
+    let verdict = begun.verdict;
+    let n = verdict_number(verdict, saved.len());
+    saved::write(call, saved);
+    n
+}
+
+fn access_answer(next: Next) -> AccessAnswer
+    ensures { λ r. ⌜ r ≡ accessAnswer next ⌝ }
+{
+    match next {
+        Next::Over => AccessAnswer { kind: 0, value: 0 },
+        Next::Read(r) => AccessAnswer {
+            kind: 1,
+            value: r.offset(),
+        },
+        Next::Write(r) => AccessAnswer {
+            kind: 2,
+            value: r.offset(),
+        },
+        Next::Refused(why) => AccessAnswer {
+            kind: 3,
+            value: refusal_number(why),
+        },
+    }
+}
+
+pub fn next(d: Description, ops: &[u32], saved: &[u8], buffer: &[u8]) -> AccessAnswer
+    ensures { λ r. ⌜ r ≡ accessIn d (now (ops .entry)) (now (saved .entry)) (now (buffer .entry)) ⌝ }
+{
+    let call = saved::read(saved);
+    access_answer(driver::next_access(d, ops, call, buffer))
+}
+
+fn report_number(report: Report) -> u32
+    ensures { λ r. ⌜ r ≡ reportNumber report ⌝ }
+{
+    match report {
+        Report::Over(o) => saved::outcome_number(o),
+        Report::Full => 12,
+        Report::Waiting => 10,
+        Report::Refused(_) => 11,
+    }
+}
+
+fn report_value(report: Report) -> u32
+    ensures { λ r. ⌜ r ≡ reportValue report ⌝ }
+{
+    match report {
+        Report::Over(o) => access::call::value(o),
+        Report::Full => 0,
+        Report::Waiting => 0,
+        Report::Refused(why) => refusal_number(why),
+    }
+}
+
+fn is_refusal(report: Report) -> bool
+    ensures { λ r. ⌜ r ≡ isRefusal report ⌝ }
+{
+    match report {
+        Report::Over(_) => false,
+        Report::Full => false,
+        Report::Waiting => false,
+        Report::Refused(_) => true,
+    }
+}
+
+// A piece whose bytes are read: where a call waits, BYTE can only read.
+fn reading() -> View
+    ensures { λ r. ⌜ r ≡ readingView ⌝ }
+{
+    View {
+        start: 0,
+        size: 0,
+        reads: true,
+        last: false,
+        same: false,
+        reload: false,
+        some: false,
+    }
+}
+
+// The offset of the register whose word a waiting call awaits: its step tells it.
+fn awaited(d: Description, report: Report, saved: SavedCall) -> u32
+    ensures { λ r. ⌜ ((c : Call) (b : List ℕ) → r ≡ awaitedBy report (nextOf (accessAt c d readingView b saved (saved .step)))) ⌝ }
+{
+    match report {
+        Report::Over(_) => 0,
+        Report::Full => 0,
+        Report::Waiting => access_answer(access::register_at(d, reading(), saved)).value,
+        Report::Refused(_) => 0,
+    }
+}
+
+// A refused call is left as it is.
+fn keep(report: Report, next: SavedCall, saved: &mut [u8])
+    ensures { λ _. ⌜ now (saved .exit) ≡ cond (isRefusal report) (now (saved .entry)) (writtenTo (now (saved .entry)) next) ⌝ }
+{
+    if is_refusal(report) {
+        return;
+    }
+    saved::write(next, saved);
+}
+
+pub fn advance(
+    d: Description,
+    ops: &[u32],
+    saved: &mut [u8],
+    buffer: &mut [u8],
+    answers: &[u8],
+    log: &mut [u8],
+) -> AdvanceAnswer
+    ensures { λ r. ⌜ asFinal r (now (saved .exit)) (now (buffer .exit)) (now (log .exit)) ≡ finalIn d (now (ops .entry)) (now (saved .entry)) (now (buffer .entry)) (now (answers .entry)) (now (log .entry)) ⌝ }
+{
+    let call = saved::read(saved);
+    let far = run::run(call, d, ops, buffer, answers, log);
+    let report = far.report;
+    let next = far.saved;
+    keep(report, next, saved);
+    AdvanceAnswer {
+        report: report_number(report),
+        value: report_value(report),
+        awaited: awaited(d, report, next),
+        used: far.used,
+        written: far.written,
+    }
+}

@@ -1,0 +1,17 @@
+-- `read_as` meets its contract. Assumes nothing.
+use borrow.Author.Needs.{needs}
+use Rattle.saved.proofs.read_as.Statement.{statement}
+use Rattle.saved.proofs.read_as.Tie as tie
+
+pub read-as-spec : {M : Type 1} → statement M
+read-as-spec =
+    tie.close
+    (tie.spec
+    (λ c κs. search needs)
+    (λ c κs. search needs)
+    (λ c κs. search needs)
+    (λ c κs. search needs)
+    (λ c κs. search needs)
+    (λ c.
+    rw
+    (c .before .before .before .before .get .ensures, c .before .before .before .get2 .ensures, c .before .before .get3 .ensures, c .before .get4 .ensures, c .get5 .ensures)))

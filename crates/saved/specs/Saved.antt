@@ -1,0 +1,103 @@
+-- The saved call as bytes: eight little-endian words. Assumes nothing.
+use Prim.Native.Nat.{ℕ}
+use mathlib.Core.Bool.{Bool, true, false, cond, _&&_}
+use mathlib.Core.List.{List, [], _∷_, _++_, map}
+use lib.Dec.{eqb}
+use lib.ListN.{length}
+use Rattle.calls.specs.Outcomes.{outcomeNumber, outcomeValue}
+use Rattle.calls.specs.Run.{noCall}
+use Rattle.calls.specs.Steps.{stepNumber}
+use Rattle.calls.specs.declared.Modify.{Modify}
+use Rattle.calls.specs.declared.Modify.the-variants.{PeOff, PeOn, Listen, NackSet, ReloadOff, SbcOff, ReloadClear, SbcOn, ReloadOn, NbytesSet}
+use Rattle.calls.specs.declared.Outcome.{Outcome}
+use Rattle.calls.specs.declared.Outcome.the-variants.{Done, Bus, Arbitration, Nack, Stopped, ExpectedWrite, ExpectedRead, EventRead, EventWrite, EventStop}
+use Rattle.calls.specs.declared.SavedCall.{SavedCall}
+use Rattle.calls.specs.declared.Step.{Step}
+use Rattle.calls.specs.declared.Step.the-variants.{Ended, Begin, StartStatus, StartControl, Wait, Byte, StopClear, BusClear, ArbitrationClear, NackClear, FlushTxis, FlushByte, FlushTxe, Flush, Timing, Own, Secondary, Enable, Delay1, Delay2, Disabled, Event, EventFlush, EventClear, Address, TransferClear, ModifyRead, ModifyWrite}
+use Rattle.words.specs.Words.{wordAt, bytesOf}
+use Rattle.saved.specs.declared.outcome.FoundOutcome.{FoundOutcome}
+use Rattle.saved.specs.declared.outcome.FoundOutcome.the-variants.{AnOutcome, NoOutcome}
+use Rattle.saved.specs.declared.step.FoundStep.{FoundStep}
+use Rattle.saved.specs.declared.step.FoundStep.the-variants.{AStep, NoStep}
+
+-- ---- The step of a number
+abbrev pub modifies : List Modify
+modifies = PeOff ∷ PeOn ∷ Listen ∷ NackSet ∷ ReloadOff ∷ SbcOff ∷ ReloadClear ∷ SbcOn ∷ ReloadOn ∷ NbytesSet ∷ []
+
+abbrev pub steps : List Step
+steps =
+    Ended ∷ Begin ∷ StartStatus ∷ StartControl ∷ Wait ∷ Byte ∷ StopClear ∷ BusClear ∷ ArbitrationClear ∷ NackClear
+    ∷ FlushTxis ∷ FlushByte ∷ FlushTxe ∷ Flush ∷ Timing ∷ Own ∷ Secondary ∷ Enable ∷ Delay1 ∷ Delay2 ∷ Disabled
+    ∷ Event ∷ EventFlush ∷ EventClear ∷ Address ∷ TransferClear
+    ∷ map ModifyRead modifies ++ map ModifyWrite modifies
+
+abbrev pub stepIn : List Step → ℕ → FoundStep
+stepIn [] n = NoStep
+stepIn (t ∷ ts) n = cond (eqb n (stepNumber t)) (AStep t) (stepIn ts n)
+
+unfoldable pub stepAt : ℕ → FoundStep
+stepAt n = stepIn steps n
+
+-- ---- The outcome of a number and a value. One that comes with nothing has the value 0.
+abbrev pub outcomes : ℕ → List Outcome
+outcomes v =
+    Done v ∷ Bus ∷ Arbitration ∷ Nack ∷ Stopped ∷ ExpectedWrite ∷ ExpectedRead ∷ EventRead v ∷ EventWrite v ∷ EventStop ∷ []
+
+abbrev pub outcomeIn : List Outcome → ℕ → ℕ → FoundOutcome
+outcomeIn [] n v = NoOutcome
+outcomeIn (o ∷ os) n v = cond (eqb n (outcomeNumber o)) (cond (eqb v (outcomeValue o)) (AnOutcome o) NoOutcome) (outcomeIn os n v)
+
+unfoldable pub outcomeAt : ℕ → ℕ → FoundOutcome
+outcomeAt n v = outcomeIn (outcomes v) n v
+
+-- ---- The bytes of a saved call
+abbrev pub savedWords : SavedCall → List ℕ
+savedWords s =
+    s .call ∷ s .piece ∷ s .byte ∷ s .word ∷ s .accesses
+    ∷ outcomeNumber (s .outcome) ∷ outcomeValue (s .outcome) ∷ stepNumber (s .step) ∷ []
+
+unfoldable pub savedBytes : SavedCall → List ℕ
+savedBytes s = bytesOf (savedWords s)
+
+-- what a slice holds once s is written to it: one of another length is left as it is
+unfoldable pub writtenTo : List ℕ → SavedCall → List ℕ
+writtenTo bytes s = cond (eqb (length bytes) 32) (savedBytes s) bytes
+
+-- ---- The saved call of bytes. Bytes of another length, without such an outcome or without such a step are none; they are
+-- read as what a refused begin hands out, which no advance takes.
+abbrev pub isStep : FoundStep → Bool
+isStep (AStep t) = true
+isStep NoStep = false
+
+abbrev pub isOutcome : FoundOutcome → Bool
+isOutcome (AnOutcome o) = true
+isOutcome NoOutcome = false
+
+abbrev pub stepOf : List ℕ → FoundStep
+stepOf bytes = stepAt (wordAt bytes 7)
+
+abbrev pub outcomeOf : List ℕ → FoundOutcome
+outcomeOf bytes = outcomeAt (wordAt bytes 5) (wordAt bytes 6)
+
+unfoldable pub isSaved : List ℕ → Bool
+isSaved bytes = eqb (length bytes) 32 && (isStep (stepOf bytes) && isOutcome (outcomeOf bytes))
+
+abbrev pub savedAs : List ℕ → Step → Outcome → SavedCall
+savedAs bytes t o =
+    record {
+      call = wordAt bytes 0;
+      piece = wordAt bytes 1;
+      byte = wordAt bytes 2;
+      word = wordAt bytes 3;
+      accesses = wordAt bytes 4;
+      outcome = o;
+      step = t;
+    }
+
+abbrev pub savedWith : List ℕ → FoundStep → FoundOutcome → SavedCall
+savedWith bytes (AStep t) (AnOutcome o) = savedAs bytes t o
+savedWith bytes (AStep t) NoOutcome = noCall
+savedWith bytes NoStep o = noCall
+
+unfoldable pub savedIn : List ℕ → SavedCall
+savedIn bytes = cond (eqb (length bytes) 32) (savedWith bytes (stepOf bytes) (outcomeOf bytes)) noCall
