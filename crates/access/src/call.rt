@@ -2,6 +2,7 @@
 ghost use mathlib.Core.Path.{_≡_};
 ghost use mathlib.Core.Bool.{_&&_, not};
 ghost use Prim.Native.Nat.{_<_};
+ghost use lib.Dec.{leb};
 ghost use Rattle.calls.specs.Calls.{byAck, numberOf, call, kinds, transaction, manual, receives, transmits, eventful, configured, hasSecondary, hasMask};
 ghost use Rattle.calls.specs.Outcomes.{isDone, isEventRead, outcomeValue};
 use calls::Ack;
@@ -48,48 +49,91 @@ pub fn is_call(c: Call, n: u32) -> bool
     number(c) == n
 }
 
-// In either acknowledge mode.
-pub fn is_kind(c: Call, n: u8) -> bool
-    ensures { λ r. ⌜ r ≡ kinds c n ⌝ }
-{
-    let m = n as u32;
-    is_call(c, m) || is_call(c, m + 16)
-}
-
 pub fn is_transaction(c: Call) -> bool
     ensures { λ r. ⌜ r ≡ transaction c ⌝ }
 {
-    is_call(c, 7)
+    match c {
+        Call::Transaction => true,
+        _ => false,
+    }
 }
 
-pub fn is_manual(c: Call) -> bool
-    ensures { λ r. ⌜ r ≡ manual c ⌝ }
+// The kinds, each in either acknowledge mode. A match on the call costs one test of its tag; its number costs a table.
+pub fn is_wait_for_event(c: Call) -> bool
+    ensures { λ r. ⌜ r ≡ kinds c 8 ⌝ }
 {
-    number(c) >= 16
+    match c {
+        Call::WaitForEvent(_) => true,
+        _ => false,
+    }
+}
+
+pub fn is_wait_for_stop(c: Call) -> bool
+    ensures { λ r. ⌜ r ≡ kinds c 13 ⌝ }
+{
+    match c {
+        Call::WaitForStop(_) => true,
+        _ => false,
+    }
 }
 
 pub fn is_receiver(c: Call) -> bool
     ensures { λ r. ⌜ r ≡ receives c ⌝ }
 {
-    is_kind(c, 9) || is_kind(c, 11)
-}
-
-pub fn is_auto_receiver(c: Call) -> bool
-    ensures { λ r. ⌜ r ≡ (receives c && not (manual c)) ⌝ }
-{
-    is_receiver(c) && !is_manual(c)
+    match c {
+        Call::Read(_) | Call::WaitForTargetRead(_) => true,
+        _ => false,
+    }
 }
 
 pub fn is_transmitter(c: Call) -> bool
     ensures { λ r. ⌜ r ≡ transmits c ⌝ }
 {
-    is_kind(c, 10) || is_kind(c, 12)
+    match c {
+        Call::Write(_) | Call::WaitForTargetWrite(_) => true,
+        _ => false,
+    }
 }
 
 pub fn is_eventful(c: Call) -> bool
     ensures { λ r. ⌜ r ≡ eventful c ⌝ }
 {
-    is_kind(c, 8) || (is_kind(c, 11) || (is_kind(c, 12) || is_kind(c, 13)))
+    match c {
+        Call::WaitForEvent(_)
+        | Call::WaitForTargetRead(_)
+        | Call::WaitForTargetWrite(_)
+        | Call::WaitForStop(_) => true,
+        _ => false,
+    }
+}
+
+fn is_manual_ack(a: Ack) -> bool
+    ensures { λ r. ⌜ r ≡ leb 16 (byAck 0 a) ⌝ }
+{
+    match a {
+        Ack::AutoAck => false,
+        Ack::ManualAck => true,
+    }
+}
+
+pub fn is_manual(c: Call) -> bool
+    ensures { λ r. ⌜ r ≡ manual c ⌝ }
+{
+    match c {
+        Call::WaitForEvent(a)
+        | Call::Read(a)
+        | Call::Write(a)
+        | Call::WaitForTargetRead(a)
+        | Call::WaitForTargetWrite(a)
+        | Call::WaitForStop(a) => is_manual_ack(a),
+        _ => false,
+    }
+}
+
+pub fn is_auto_receiver(c: Call) -> bool
+    ensures { λ r. ⌜ r ≡ (receives c && not (manual c)) ⌝ }
+{
+    is_receiver(c) & !is_manual(c)
 }
 
 pub fn is_configured(c: Call, d: Description) -> bool

@@ -29,7 +29,7 @@ use Rattle.calls.specs.declared.Step.{Step}
 use Rattle.calls.specs.declared.Step.the-variants.{Ended, Byte, StopClear, NackClear, FlushTxis, FlushByte, Address, ModifyRead, ModifyWrite}
 use Rattle.calls.specs.declared.Then.{Then}
 use Rattle.calls.specs.declared.Then.the-variants.{Goes, Loads, Notes, Next, Enters, Fails, Ends}
-use Rattle.calls.proofs.Logic.{only, only-if, and-in, or-1, or-else, nor-0, by-test, both}
+use Rattle.calls.proofs.Logic.{only, only-if, and-in, or-1, or-else, nor-0, by-test, both, same}
 use Rattle.calls.proofs.Every.{implied, is-eq, every-step}
 use Rattle.calls.proofs.Fits.{over, flushOk, inEvent, plain, Fits, stepOf, AllRead, all-read, move-some, fits}
 use Rattle.calls.proofs.Accepted.{Known, known, notes-well, accepted-after, accepted-begin}
@@ -120,12 +120,6 @@ pub record Quiet (t : Step) (two : Bool) (x : Access) (a : ℕ) (b : List ℕ) :
   pub out : outOf two (entryOf x a) ≡ []
   pub got : inOf (entryOf x a) ≡ []
   pub store : storeOf x a b ≡ b
-
-same : (x y : Bool) → T (Bool·beq x y) → x ≡ y
-same true true h = refl
-same true false h = absurd h
-same false true h = absurd h
-same false false h = refl
 
 quiet-entry : (t : Step) (two one : Bool) (x : Access) (a : ℕ) (b : List ℕ) →
     T (ordinary t (entryOf x a)) → T (flushOk t two one) → Quiet t two x a b

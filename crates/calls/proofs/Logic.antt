@@ -1,6 +1,6 @@
 -- The small laws of Boolean tests that the other proofs share. Assumes nothing.
 use mathlib.Core.Path.{_≡_, refl}
-use mathlib.Core.Bool.{Bool, true, false, cond, not, _&&_, _||_}
+use mathlib.Core.Bool.{Bool, true, false, cond, not, _&&_, _||_, Bool·beq}
 use lib.Dec.{T}
 
 -- X, where the test holds
@@ -77,3 +77,9 @@ is-true false h = absurd h
 pub is-false : (c : Bool) → T (not c) → c ≡ false
 is-false true h = absurd h
 is-false false h = refl
+
+pub same : (x y : Bool) → T (Bool·beq x y) → x ≡ y
+same true true h = refl
+same true false h = absurd h
+same false true h = absurd h
+same false false h = refl

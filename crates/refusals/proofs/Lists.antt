@@ -1,40 +1,48 @@
--- A loop over an operation list: what the operations so far say, and those that are left. Assumes nothing.
+-- The loop over an operation list: what is found so far, and what the operations that are left add; and the rows that the
+-- list decides. Assumes nothing.
 use Prim.Native.Nat.{ℕ, _+_, _*_, _≤_, _<_}
+use native.Mathlib.Nat.{add-assoc, add-zero, zero-add}
 use native.Mathlib.Numerals.{add-one}
 use native.Mathlib.Omega.{arith}
 use mathlib.Core.Path.{_≡_}
-use mathlib.Core.Bool.{Bool, true, false}
+use mathlib.Core.Bool.{Bool, true, false, not, _||_, or-assoc, or-false}
 use mathlib.Core.List.{List}
 use lib.ListN.{length, getD, drop, drop-of-length-le}
 use lib.Seq.{drop-cons}
+use lib.Dec.{eqb}
+use borrow.Author.Tests.{lt-ltb, le-ltb}
 use mir.Syntax.{w32}
 use mir.Val.{Fits}
+use Rattle.calls.specs.Calls.{transaction}
 use Rattle.calls.specs.Pieces.{operation-length}
-use Rattle.calls.specs.Refusals.{lengthOf, total, anyOf}
+use Rattle.calls.specs.Refusals.{lengthOf, strangeBits, tooLong, total, anyOf}
+use Rattle.calls.specs.declared.Call.{Call}
+use Rattle.calls.specs.declared.Refusal.the-variants.{List as BadList, Long}
+use Rattle.calls.specs.declared.Verdict.{Verdict}
+use Rattle.calls.specs.declared.Verdict.the-variants.{Refused}
+use Rattle.access.proofs.Branch.{told, un-not}
 use Rattle.fields.proofs.Laws.{get-lt}
+use Rattle.refusals.specs.Rows.{surveyOf, bufferVerdict, listVerdict}
+use Rattle.refusals.specs.declared.Survey.{Survey}
 
--- no operation before i is one that f means
-module _ (f : ℕ → Bool) (ops : List ℕ) (i : ℕ) (none : anyOf f ops ≡ anyOf f (drop i ops)) where
-  pub any-ends : length ops ≤ i → false ≡ anyOf f ops
-  any-ends h = rw (none, drop-of-length-le ops h)
+abbrev pub onward : Bool → Bool → ℕ → List ℕ → Survey
+onward strange long sum ops = record {
+  strange = strange || anyOf strangeBits ops;
+  long = long || anyOf tooLong ops;
+  total = sum + total ops;
+}
 
-  module _ (r : Bool) (some : i < length ops) (is : r ≡ f (getD ops i 0)) where
-    pub any-found : r ≡ true → true ≡ anyOf f ops
-    any-found h = rw (none, drop-cons ops i 0, ← is, h)
+pub survey-starts : (ops : List ℕ) → onward false false 0 ops ≡ surveyOf ops
+survey-starts ops = rw zero-add
 
-    pub any-next : r ≡ false → anyOf f ops ≡ anyOf f (drop (i + 1) ops)
-    any-next h = rw (none, add-one, drop-cons ops i 0, ← is, h)
+module _ (ops : List ℕ) (i : ℕ) (strange long : Bool) (sum : ℕ) (all : onward strange long sum (drop i ops) ≡ surveyOf ops) where
+  pub survey-ends : length ops ≤ i → record { strange = strange; long = long; total = sum } ≡ surveyOf ops
+  survey-ends h = simp (drop-of-length-le ops h, or-false, add-zero) at all
 
-pub ruleset any-turns = (any-ends, any-found, any-next)
-
--- the operations before i make up the sum
-module _ (ops : List ℕ) (i sum : ℕ) (all : sum + total (drop i ops) ≡ total ops) where
-  pub sum-ends : length ops ≤ i → sum ≡ total ops
-  sum-ends h = omega (arith, rw (drop-of-length-le ops h) at all)
-
-  module _ (n : ℕ) (some : i < length ops) (is : n ≡ lengthOf (getD ops i 0)) where
-    pub sum-next : sum + n + total (drop (i + 1) ops) ≡ total ops
-    sum-next = rw add-one (omega (arith, rw (drop-cons ops i 0 some) at all))
+  module _ (some : i < length ops) (n : ℕ) (is : n ≡ lengthOf (getD ops i 0)) where
+    pub survey-next : (x y : Bool) → x ≡ strangeBits (getD ops i 0) → y ≡ tooLong (getD ops i 0) →
+        onward (strange || x) (long || y) (sum + n) (drop (i + 1) ops) ≡ surveyOf ops
+    survey-next x y p q = rw (p, q, is) (simp (add-one, or-assoc, add-assoc) (rw (drop-cons ops i 0 some) at all))
 
     pub sum-low : sum ≤ 65535 * i → sum + n ≤ 65535 * (i + 1)
     sum-low h = omega (arith, get-lt (getD ops i 0) operation-length)
@@ -42,4 +50,26 @@ module _ (ops : List ℕ) (i sum : ℕ) (all : sum + total (drop i ops) ≡ tota
     pub sum-fits : length ops ≤ 64 → sum ≤ 65535 * i → Fits w32 (sum + n)
     sum-fits l h = record { fits = omega (arith, get-lt (getD ops i 0) operation-length) }
 
-pub ruleset sum-turns = (sum-ends, sum-next, sum-low, sum-fits)
+pub ruleset survey-turns = (survey-starts, survey-ends, survey-next, sum-low, sum-fits)
+
+-- ---- the rows of the list, by the tests that were taken
+module _ (c : Call) (ops : List ℕ) (n : ℕ) (t : Bool) (is : t ≡ transaction c) where
+  pub no-list : {r : Verdict} → not t ≡ true → r ≡ bufferVerdict c n → r ≡ listVerdict c ops n
+  no-list h e = rw (told is (un-not h)) e
+
+  module _ (list : not t ≡ false) where
+    pub too-many : 64 < length ops → Refused BadList ≡ listVerdict c ops n
+    too-many h = rw (told is (un-not list), lt-ltb 64 (length ops) h)
+
+    module _ (few : length ops ≤ 64) (s : Survey) (found : s ≡ surveyOf ops) where
+      pub list-wrong : (s .strange || not (eqb (s .total) n)) ≡ true → Refused BadList ≡ listVerdict c ops n
+      list-wrong h = rw (told is (un-not list), le-ltb 64 (length ops) few, rw found at h)
+
+      module _ (right : (s .strange || not (eqb (s .total) n)) ≡ false) where
+        pub long-one : s .long ≡ true → Refused Long ≡ listVerdict c ops n
+        long-one h = rw (told is (un-not list), le-ltb 64 (length ops) few, rw found at right, rw found at h)
+
+        pub list-right : {r : Verdict} → s .long ≡ false → r ≡ bufferVerdict c n → r ≡ listVerdict c ops n
+        list-right h e = rw (told is (un-not list), le-ltb 64 (length ops) few, rw found at right, rw found at h) e
+
+pub ruleset list-rows = (no-list, too-many, list-wrong, long-one, list-right)

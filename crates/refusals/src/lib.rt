@@ -3,7 +3,8 @@
 ghost use mathlib.Core.Path.{_≡_};
 ghost use Prim.Native.Nat.{_≤_};
 ghost use lib.ListN.{length};
-ghost use Rattle.calls.specs.Refusals.{lookupOf, noSuchListenKind, tooWide, configWide, addressWide, lengthOf, total, anyOf, strangeBits, listWrong, tooLong, operationLong, bufferWrong, requestOf, verdictOf, checkOf};
+ghost use Rattle.calls.specs.Refusals.{lookupOf, noSuchListenKind, tooWide, configWide, addressWide, lengthOf, strangeBits, tooLong, bufferWrong, requestOf, verdictOf, checkOf};
+ghost use Rattle.refusals.specs.Rows.{surveyOf, bufferVerdict, listVerdict};
 use access::call;
 use calls::Ack;
 use calls::Call;
@@ -129,41 +130,6 @@ fn is_strange(o: u32) -> bool
     fields::get(o, 17, 15) != 0
 }
 
-fn has_strange(ops: &[u32]) -> bool
-    ensures { λ r. ⌜ r ≡ anyOf strangeBits (now (ops .entry)) ⌝ }
-{
-    for i in 0..ops.len() {
-        if is_strange(ops[i]) {
-            return true;
-        }
-    }
-    false
-}
-
-// Of at most 64 operations the sum does not overflow.
-fn total_of(ops: &[u32]) -> u32
-    requires { ⌜ length (now ops) ≤ 64 ⌝ }
-    ensures { λ r. ⌜ r ≡ total (now (ops .entry)) ⌝ }
-{
-    let mut sum: u32 = 0;
-    for i in 0..ops.len() {
-        sum += length_of(ops[i]);
-    }
-    sum
-}
-
-fn is_list_wrong(c: Call, ops: &[u32], n: usize) -> bool
-    ensures { λ r. ⌜ r ≡ listWrong c (now (ops .entry)) n ⌝ }
-{
-    if call::is_transaction(c) {
-        if ops.len() > 64 {
-            return true;
-        }
-        return has_strange(ops) | (total_of(ops) as usize != n);
-    }
-    false
-}
-
 // 9, long: an operation that NBYTES cannot count.
 fn is_long(o: u32) -> bool
     ensures { λ r. ⌜ r ≡ tooLong o ⌝ }
@@ -171,24 +137,33 @@ fn is_long(o: u32) -> bool
     length_of(o) > 255
 }
 
-fn has_long(ops: &[u32]) -> bool
-    ensures { λ r. ⌜ r ≡ anyOf tooLong (now (ops .entry)) ⌝ }
-{
-    for i in 0..ops.len() {
-        if is_long(ops[i]) {
-            return true;
-        }
-    }
-    false
+// What rows 10 and 9 ask of a list.
+struct Survey {
+    strange: bool,
+    long: bool,
+    total: u32,
 }
 
-fn is_operation_long(c: Call, ops: &[u32]) -> bool
-    ensures { λ r. ⌜ r ≡ operationLong c (now (ops .entry)) ⌝ }
+// One pass that never ends early, so that the compiler can take several operations at a time. Of at most 64 the sum does
+// not overflow.
+fn survey_of(ops: &[u32]) -> Survey
+    requires { ⌜ length (now ops) ≤ 64 ⌝ }
+    ensures { λ r. ⌜ r ≡ surveyOf (now (ops .entry)) ⌝ }
 {
-    if call::is_transaction(c) {
-        return has_long(ops);
+    let mut strange = false;
+    let mut long = false;
+    let mut total: u32 = 0;
+    for i in 0..ops.len() {
+        let o = ops[i];
+        strange |= is_strange(o);
+        long |= is_long(o);
+        total += length_of(o);
     }
-    false
+    Survey {
+        strange,
+        long,
+        total,
+    }
 }
 
 // 11, buffer: an AutoAck transfer moves a byte, and sixteen bits count the bytes.
@@ -200,7 +175,36 @@ fn is_buffer_wrong(c: Call, n: usize) -> bool
         | (n > 65535)
 }
 
-// The verdict on a listed call, by the rows in their order.
+// The verdict on a listed call, by the rows in their order: here from 11 on.
+fn buffer_verdict(c: Call, n: usize) -> Verdict
+    ensures { λ r. ⌜ r ≡ bufferVerdict c n ⌝ }
+{
+    if is_buffer_wrong(c, n) {
+        return Verdict::Refused(Refusal::Buffer);
+    }
+    Verdict::Accepted(c)
+}
+
+// From 10 on. Only a transaction's list is looked at, and one of more than 64 operations is not gone through.
+fn list_verdict(c: Call, ops: &[u32], n: usize) -> Verdict
+    ensures { λ r. ⌜ r ≡ listVerdict c (now (ops .entry)) n ⌝ }
+{
+    if !call::is_transaction(c) {
+        return buffer_verdict(c, n);
+    }
+    if ops.len() > 64 {
+        return Verdict::Refused(Refusal::List);
+    }
+    let s = survey_of(ops);
+    if s.strange | (s.total as usize != n) {
+        return Verdict::Refused(Refusal::List);
+    }
+    if s.long {
+        return Verdict::Refused(Refusal::Long);
+    }
+    buffer_verdict(c, n)
+}
+
 fn verdict(c: Call, d: Description, ops: &[u32], n: usize) -> Verdict
     ensures { λ r. ⌜ r ≡ verdictOf (requestOf c d (now (ops .entry)) n) ⌝ }
 {
@@ -210,16 +214,7 @@ fn verdict(c: Call, d: Description, ops: &[u32], n: usize) -> Verdict
     if is_address_wide(c, d) {
         return Verdict::Refused(Refusal::Address);
     }
-    if is_list_wrong(c, ops, n) {
-        return Verdict::Refused(Refusal::List);
-    }
-    if is_operation_long(c, ops) {
-        return Verdict::Refused(Refusal::Long);
-    }
-    if is_buffer_wrong(c, n) {
-        return Verdict::Refused(Refusal::Buffer);
-    }
-    Verdict::Accepted(c)
+    list_verdict(c, ops, n)
 }
 
 // What begin and advance both look at; n is the lent buffer's length.

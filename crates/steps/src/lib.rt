@@ -144,7 +144,7 @@ fn event_over(c: Call, some: bool, s: SavedCall) -> Then
     ensures { λ r. ⌜ r ≡ eventOf c some s ⌝ }
 {
     let o = s.outcome;
-    if call::is_kind(c, 8) {
+    if call::is_wait_for_event(c) {
         return Then::Ends(o);
     }
     if call::is_event_read(o) {
@@ -162,10 +162,10 @@ fn event_over(c: Call, some: bool, s: SavedCall) -> Then
 fn stop_event(c: Call) -> Then
     ensures { λ r. ⌜ r ≡ stopEvent c ⌝ }
 {
-    if call::is_kind(c, 8) {
+    if call::is_wait_for_event(c) {
         return Then::Ends(Outcome::EventStop);
     }
-    if call::is_kind(c, 13) {
+    if call::is_wait_for_stop(c) {
         return Then::Ends(Outcome::Done(0));
     }
     Then::Ends(Outcome::Stopped)

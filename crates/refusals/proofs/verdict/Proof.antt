@@ -1,4 +1,4 @@
--- `driver::check::verdict` meets its contract: each return by the rows that led there. Assumes nothing.
+-- `verdict` meets its contract: each return by the rows that led there. Assumes nothing.
 use borrow.Author.Needs.{needs}
 use Rattle.calls.specs.Refusals.{verdictOf}
 use Rattle.access.proofs.Branch.{branches}
@@ -15,9 +15,4 @@ verdict-spec =
     (λ c κs. search needs)
     (λ c. search branches)
     (λ c κs. search needs)
-    (λ c. search branches)
-    (λ c κs. search needs)
-    (λ c. search branches)
-    (λ c κs. search needs)
-    (λ c. search branches depth 7)
-    (λ c. search branches depth 7))
+    (λ c. search branches))

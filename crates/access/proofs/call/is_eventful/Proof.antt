@@ -1,18 +1,15 @@
--- `call::is_eventful` meets its contract: each return by the tests that led there. Assumes nothing.
-use Rattle.access.proofs.Branch.{branches}
-use borrow.Author.Needs.{needs}
+-- `call::is_eventful` meets its contract, by the variants. Assumes nothing.
+use mathlib.Core.Bool.{true, false}
+use mathlib.Core.List.{[], _∷_}
+use Rattle.calls.specs.Calls.{call, kinds, eventful}
+use Rattle.access.proofs.Variants.{others, of-variants}
 use Rattle.access.proofs.call.is_eventful.Statement.{statement}
 use Rattle.access.proofs.call.is_eventful.Tie as tie
 
 pub is-eventful-spec : {M : Type 1} → statement M
+unfolding call kinds
 is-eventful-spec =
     tie.close
     (tie.spec
-    (λ c κs. search needs)
-    (λ c κs. search needs)
-    (λ c κs. search needs)
-    (λ c κs. search needs)
-    (λ c. search branches)
-    (λ c. search branches)
-    (λ c. search branches)
-    (λ c. search branches))
+    (λ c. of-variants eventful true (7 ∷ 10 ∷ 11 ∷ 12 ∷ []) tt (c .before .args .c) (c .match .keys1))
+    (λ c. of-variants eventful false (others (7 ∷ 10 ∷ 11 ∷ 12 ∷ [])) tt (c .before .args .c) (c .match .keys2)))
