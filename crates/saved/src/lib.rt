@@ -12,6 +12,8 @@ use step::FoundStep;
 mod outcome;
 mod step;
 
+pub use outcome::outcome_number;
+
 // What a refused begin hands out; no advance takes it.
 fn no_call() -> SavedCall
     ensures { λ r. ⌜ r ≡ noCall ⌝ }
