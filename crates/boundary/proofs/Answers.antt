@@ -24,9 +24,9 @@ use Rattle.window.proofs.Laid.{front}
 use Rattle.window.specs.Window.{asShown, windowOf}
 use Rattle.words.specs.Words.{wordsIn, putWords}
 use Rattle.boundary.specs.Calls.{verdictNumber, operationsIn, asBegin, beginIn, awaitedBy, readingView, logAfter, asFinal, finalIn}
-use Rattle.boundary.specs.Pieces.{Come, asCome, comeIn}
-use Rattle.boundary.specs.declared.run.Far.{Far}
-use Rattle.boundary.proofs.Enough.{awaited-is}
+use Rattle.advance_bytes.specs.Pieces.{Come, asCome, comeIn}
+use Rattle.advance_bytes.specs.declared.Far.{Far}
+use Rattle.boundary.proofs.Awaited.{awaited-is}
 
 -- the list that 65 words have room for
 module _ (bytes words : List ℕ) (n : ℕ) (words′ : List ℕ) (long : length words ≡ 65)

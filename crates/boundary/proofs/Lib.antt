@@ -1,3 +1,2 @@
-pub mod Enough
-pub mod Pieces
+pub mod Awaited
 pub mod Answers

@@ -11,7 +11,6 @@ ghost use Rattle.calls.specs.Outcomes.{refusalNumber, reportNumber, reportValue
 ghost use Rattle.calls.specs.Steps.{accessAt};
 ghost use Rattle.saved.specs.Saved.{writtenTo};
 ghost use Rattle.boundary.specs.Calls.{descriptionOf, verdictNumber, asBegin, beginIn, accessAnswer, accessIn, asFinal, finalIn, awaitedBy, readingView};
-use crate::run;
 use calls::Call;
 use calls::Description;
 use calls::Next;
@@ -221,7 +220,7 @@ pub fn advance(
     ensures { λ r. ⌜ asFinal r (now (saved .exit)) (now (buffer .exit)) (now (log .exit)) ≡ finalIn d (now (ops .entry)) (now (saved .entry)) (now (buffer .entry)) (now (answers .entry)) (now (log .entry)) ⌝ }
 {
     let call = saved::read(saved);
-    let far = run::run(call, d, ops, buffer, answers, log);
+    let far = advance_bytes::run(call, d, ops, buffer, answers, log);
     let report = far.report;
     let next = far.saved;
     keep(report, next, saved);

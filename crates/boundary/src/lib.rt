@@ -17,7 +17,6 @@ use timing::Refusal;
 use timing::Timed;
 
 mod call;
-mod run;
 
 // A TIMINGR word, or the number of a refusal and word 0.
 #[repr(C)]

@@ -5,7 +5,7 @@ use borrow.Author.Needs.{needs}
 use mathlib.Core.Path.{_≡_, ap, _∙_}
 use Rattle.calls.specs.declared.SavedCall.{SavedCall}
 use Rattle.words.specs.Words.{wordsIn}
-use Rattle.boundary.specs.Pieces.{comeIn}
+use Rattle.advance_bytes.specs.Pieces.{comeIn}
 use Rattle.boundary.proofs.Answers.{advances}
 
 pub advance-spec : {M : Type 1} → statement M

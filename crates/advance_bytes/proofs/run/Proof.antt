@@ -1,10 +1,10 @@
--- `run::run` meets its contract. Assumes nothing.
-use Rattle.boundary.proofs.run.run.Statement.{statement}
-use Rattle.boundary.proofs.run.run.Tie as tie
+-- `advance_bytes::run` meets its contract. Assumes nothing.
+use Rattle.advance_bytes.proofs.run.Statement.{statement}
+use Rattle.advance_bytes.proofs.run.Tie as tie
 use borrow.Author.Needs.{needs}
 use mathlib.Core.Path.{sym, _∙_}
 use native.Mathlib.Omega.{arith}
-use Rattle.boundary.proofs.Pieces.{first-used, first-written, first-goes, first-ends}
+use Rattle.advance_bytes.proofs.Pieces.{first-used, first-written, first-goes, first-ends}
 
 pub run-spec : {M : Type 1} → statement M
 run-spec =

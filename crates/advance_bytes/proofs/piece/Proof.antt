@@ -1,9 +1,9 @@
--- `run::piece` meets its contract. Assumes nothing.
-use Rattle.boundary.proofs.run.piece.Statement.{statement}
-use Rattle.boundary.proofs.run.piece.Tie as tie
+-- `advance_bytes::piece` meets its contract. Assumes nothing.
+use Rattle.advance_bytes.proofs.piece.Statement.{statement}
+use Rattle.advance_bytes.proofs.piece.Tie as tie
 use borrow.Author.Needs.{needs}
 use native.Mathlib.Omega.{arith}
-use Rattle.boundary.proofs.Pieces.{from-room, from-counted, places-counted, few, in-entries, entries-counted, within-answers, within-log, pieced}
+use Rattle.advance_bytes.proofs.Pieces.{from-room, from-counted, places-counted, few, in-entries, entries-counted, within-answers, within-log, pieced}
 
 pub piece-spec : {M : Type 1} → statement M
 piece-spec =

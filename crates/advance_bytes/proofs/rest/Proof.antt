@@ -1,6 +1,6 @@
--- `run::rest` meets its contract. The invariant: what is left of the run, after what was done, is the whole. Assumes nothing.
-use Rattle.boundary.proofs.run.rest.Statement.{statement}
-use Rattle.boundary.proofs.run.rest.Tie as tie
+-- `advance_bytes::rest` meets its contract. The invariant: what is left of the run, after what was done, is the whole. Assumes nothing.
+use Rattle.advance_bytes.proofs.rest.Statement.{statement}
+use Rattle.advance_bytes.proofs.rest.Tie as tie
 use borrow.Author.Needs.{needs}
 use Prim.Native.Nat.{ℕ, _-_, _/_, _≤_}
 use native.Mathlib.Omega.{arith}
@@ -10,8 +10,8 @@ use lib.ListN.{length}
 use borrow.Author.Tests.{not-true, not-false}
 use Rattle.calls.specs.Joined.{isFull}
 use Rattle.words.specs.Words.{wordsIn}
-use Rattle.boundary.specs.Pieces.{asCome, restFrom}
-use Rattle.boundary.proofs.Pieces.{used-bytes, written-in, ends-here, goes-on, less, rest-is, none-left}
+use Rattle.advance_bytes.specs.Pieces.{asCome, restFrom}
+use Rattle.advance_bytes.proofs.Pieces.{used-bytes, written-in, ends-here, goes-on, less, rest-is, none-left}
 
 abbrev Inv-loop : tie.InvT-loop
 Inv-loop d ops buffer₀ answers log₀ window₀ entries₀ t₀ left₀ buffer log window entries t left =

@@ -6,7 +6,7 @@ ghost use lib.ListN.{length, drop};
 ghost use Rattle.calls.specs.Joined.{isFull};
 ghost use Rattle.calls.specs.Run.{runOf};
 ghost use Rattle.words.specs.Words.{wordsIn};
-ghost use Rattle.boundary.specs.Pieces.{asCome, goOn, comeIn, restFrom};
+ghost use Rattle.advance_bytes.specs.Pieces.{asCome, goOn, comeIn, restFrom};
 use calls::Description;
 use calls::Report;
 use calls::SavedCall;

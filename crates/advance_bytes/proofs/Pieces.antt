@@ -22,9 +22,9 @@ use Rattle.words.proofs.Turns.{length-words, put-twice}
 use Rattle.words.specs.Words.{wordsFrom, wordsIn, putWordsAt}
 use Rattle.window.proofs.Laid.{front, room, counted}
 use Rattle.window.specs.Window.{asShown, windowOf}
-use Rattle.boundary.proofs.Enough.{enough-answers}
-use Rattle.boundary.specs.Pieces.{Come, asCome, goOn, restFrom, comeIn}
-use Rattle.boundary.specs.declared.run.Far.{Far}
+use Rattle.advance_bytes.proofs.Enough.{enough-answers}
+use Rattle.advance_bytes.specs.Pieces.{Come, asCome, goOn, restFrom, comeIn}
+use Rattle.advance_bytes.specs.declared.Far.{Far}
 
 -- what a window shows of a list from some place on
 module _ (from : ℕ) (t words : List ℕ) (n : ℕ) (words′ : List ℕ) (e : asShown n words′ ≡ windowOf from t words) where

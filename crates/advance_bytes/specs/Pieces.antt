@@ -9,7 +9,7 @@ use Rattle.calls.specs.Run.{Run, wordsOf, runOf}
 use Rattle.calls.specs.declared.Description.{Description}
 use Rattle.calls.specs.declared.Report.{Report}
 use Rattle.calls.specs.declared.SavedCall.{SavedCall}
-use Rattle.boundary.specs.declared.run.Far.{Far}
+use Rattle.advance_bytes.specs.declared.Far.{Far}
 
 -- how far it has come: what the last piece said and left, what all used and wrote, and the log
 pub record Come : Type 0 where
