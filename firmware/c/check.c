@@ -1,0 +1,462 @@
+/* Drives the library from C and holds it to document 01: the layout of the structs, the worked timings, the worked run of its
+ * section on the bench, cut in two ways, and refusals, which must leave everything as it was. Prints a line for each group
+ * of checks; the exit status is 1 if one failed. */
+#include "huskerivory.h"
+
+#include <stdio.h>
+#include <string.h>
+
+/* ---- Layout: what the library was built with */
+
+#define PLACE(type, field, place) _Static_assert(offsetof(type, field) == (place), #type "." #field)
+#define SIZE(type, size) _Static_assert(sizeof(type) == (size), #type)
+
+SIZE(size_t, 8);
+SIZE(huskerivory_description, 40);
+PLACE(huskerivory_description, call, 0);
+PLACE(huskerivory_description, address, 4);
+PLACE(huskerivory_description, ten, 8);
+PLACE(huskerivory_description, listen, 12);
+PLACE(huskerivory_description, timingr, 16);
+PLACE(huskerivory_description, configured, 20);
+PLACE(huskerivory_description, own, 24);
+PLACE(huskerivory_description, own_ten, 28);
+PLACE(huskerivory_description, secondary, 32);
+PLACE(huskerivory_description, mask, 36);
+SIZE(huskerivory_advanced, 32);
+PLACE(huskerivory_advanced, report, 0);
+PLACE(huskerivory_advanced, value, 4);
+PLACE(huskerivory_advanced, awaited, 8);
+PLACE(huskerivory_advanced, used, 16);
+PLACE(huskerivory_advanced, written, 24);
+SIZE(huskerivory_access, 8);
+PLACE(huskerivory_access, kind, 0);
+PLACE(huskerivory_access, value, 4);
+SIZE(huskerivory_timing_answer, 8);
+PLACE(huskerivory_timing_answer, refusal, 0);
+PLACE(huskerivory_timing_answer, timingr, 4);
+SIZE(huskerivory_timing_fields, 5);
+PLACE(huskerivory_timing_fields, presc, 0);
+PLACE(huskerivory_timing_fields, scldel, 1);
+PLACE(huskerivory_timing_fields, sdadel, 2);
+PLACE(huskerivory_timing_fields, sclh, 3);
+PLACE(huskerivory_timing_fields, scll, 4);
+
+/* ---- Checks in groups */
+
+static int failed_groups;
+static int failed_line; /* of the group's first failed check */
+static const char *failed_check;
+
+#define CHECK(condition) check((condition), #condition, __LINE__)
+
+static void check(int holds, const char *what, int line) {
+    if (!holds && failed_line == 0) {
+        failed_line = line;
+        failed_check = what;
+    }
+}
+
+static void run_group(const char *name, void (*body)(void)) {
+    failed_line = 0;
+    body();
+    if (failed_line == 0) {
+        printf("ok      %s\n", name);
+    } else {
+        printf("FAILED  %s: line %d: %s\n", name, failed_line, failed_check);
+        failed_groups++;
+    }
+}
+
+/* ---- Words in bytes */
+
+static void put_word(uint8_t *bytes, uint32_t word) {
+    for (int i = 0; i < 4; i++) {
+        bytes[i] = (uint8_t)(word >> (8 * i));
+    }
+}
+
+static uint32_t get_word(const uint8_t *bytes) {
+    uint32_t word = 0;
+    for (int i = 0; i < 4; i++) {
+        word |= (uint32_t)bytes[i] << (8 * i);
+    }
+    return word;
+}
+
+/* ---- A call with all that is lent to it; its log is that of all its advances, and `used` counts their answers */
+
+enum { PLACES = 520, BLANK = 0xA5 };
+
+typedef struct {
+    huskerivory_description description;
+    uint8_t operations[8];
+    size_t operations_len;
+    uint8_t buffer[256];
+    size_t buffer_len;
+    uint8_t saved[HUSKERIVORY_SAVED_CALL];
+    uint8_t log[PLACES * HUSKERIVORY_LOG_ENTRY];
+    size_t entries;
+    size_t used;
+} call;
+
+static uint32_t begin(call *c) {
+    return huskerivory_begin(c->description, c->operations, c->operations_len, c->buffer, c->buffer_len, c->saved,
+                             sizeof c->saved);
+}
+
+/* So many bytes of the saved call are lent. */
+static huskerivory_access next_of(const call *c, size_t saved_len) {
+    return huskerivory_next(c->description, c->operations, c->operations_len, c->saved, saved_len, c->buffer, c->buffer_len);
+}
+
+static huskerivory_access next(const call *c) {
+    return next_of(c, sizeof c->saved);
+}
+
+/* One advance with a log of so many places; its entries are added to the call's. */
+static huskerivory_advanced advance(call *c, const uint8_t *answers, size_t answers_len, size_t places) {
+    uint8_t *log = c->log + c->entries * HUSKERIVORY_LOG_ENTRY;
+    huskerivory_advanced a = huskerivory_advance(c->description, c->operations, c->operations_len, c->saved, sizeof c->saved,
+                                                 c->buffer, c->buffer_len, answers, answers_len, log,
+                                                 places * HUSKERIVORY_LOG_ENTRY);
+    c->entries += a.written;
+    c->used += a.used;
+    return a;
+}
+
+/* Document 01's bench file of one call: number, argument, head words, answer words; the operations and bytes; the answers. */
+static const uint32_t worked_file[14] = {1, 7, 0x50, 4, 5, 1, 2, 0x12, 0x34, 1, 0x020200A0, 3, 3, 0x21};
+
+static const char worked_text[] = "7 done 0 5 9\n"
+                                  "w 04 020220A0\n"
+                                  "r 18 00000001\n"
+                                  "r 04 020200A0\n"
+                                  "r 18 00000003\n"
+                                  "w 28 00000012\n"
+                                  "r 18 00000003\n"
+                                  "w 28 00000034\n"
+                                  "r 18 00000021\n"
+                                  "w 1C 00000020\n"
+                                  "b 1234\n";
+
+static const uint32_t *const worked_answers = worked_file + 9;
+
+static call worked_call(void) {
+    call c;
+    memset(&c, 0, sizeof c);
+    memset(c.log, BLANK, sizeof c.log);
+    c.description.call = worked_file[1];
+    c.description.address = worked_file[2];
+    c.operations_len = 4 * worked_file[5];
+    put_word(c.operations, worked_file[6]);
+    c.buffer_len = worked_file[6];
+    for (size_t i = 0; i < c.buffer_len; i++) {
+        c.buffer[i] = (uint8_t)worked_file[7 + i];
+    }
+    return c;
+}
+
+/* What the bench would print of a call that ended. */
+static void print_call(char *text, size_t size, const call *c, huskerivory_advanced last) {
+    static const char *const outcomes[] = {"done",          "bus",        "arbitration", "nack",      "stopped", "expected-write",
+                                           "expected-read", "event-read", "event-write", "event-stop"};
+    size_t at = (size_t)snprintf(text, size, "%u %s %u %zu %zu\n", (unsigned)c->description.call,
+                                 last.report < 10 ? outcomes[last.report] : "?", (unsigned)last.value, c->used, c->entries);
+    for (size_t i = 0; i < c->entries && at < size; i++) {
+        uint32_t code = get_word(c->log + i * HUSKERIVORY_LOG_ENTRY);
+        uint32_t value = get_word(c->log + i * HUSKERIVORY_LOG_ENTRY + 4);
+        at += (size_t)snprintf(text + at, size - at, "%c %02X %08X\n", code & HUSKERIVORY_LOG_WRITE ? 'w' : 'r',
+                               (unsigned)(code & ~HUSKERIVORY_LOG_WRITE), (unsigned)value);
+    }
+    for (size_t i = 0; i < c->buffer_len && at < size; i++) {
+        at += (size_t)snprintf(text + at, size - at, "%s%02X", i == 0 ? "b " : "", c->buffer[i]);
+    }
+    if (at < size) {
+        snprintf(text + at, size - at, "\n");
+    }
+}
+
+static void check_text(const call *c, huskerivory_advanced last) {
+    char text[512];
+    print_call(text, sizeof text, c, last);
+    CHECK(strcmp(text, worked_text) == 0);
+    for (size_t i = c->entries * HUSKERIVORY_LOG_ENTRY; i < sizeof c->log; i++) {
+        CHECK(c->log[i] == BLANK);
+    }
+    CHECK(get_word(c->saved) == 7);
+    CHECK(get_word(c->saved + 16) == 9);
+    CHECK(get_word(c->saved + 28) == 0);
+}
+
+/* Answers what the next access asks for, as firmware does: a read is made, and its word lent to one advance. */
+static huskerivory_advanced answer_once(call *c, size_t places) {
+    uint8_t answer[4];
+    huskerivory_access access = next(c);
+    put_word(answer, worked_answers[c->used < 5 ? c->used : 4]);
+    return advance(c, answer, access.kind == HUSKERIVORY_ACCESS_READ ? sizeof answer : 0, places);
+}
+
+/* ---- The groups */
+
+/* Most of it is checked by the compiler. */
+static void check_layout(void) {
+    CHECK(HUSKERIVORY_SAVED_CALL == 32);
+    CHECK(HUSKERIVORY_LOG_ENTRY == 8);
+}
+
+static void check_timings(void) {
+    static const struct {
+        uint32_t clock, frequency, refusal, timingr;
+    } cases[] = {
+        {250000000, 400000, 0, 0x60FB1C39}, {250000000, 100000, 0, 0xF0F74D4D}, {8000000, 400000, 0, 0x0072050B},
+        {2000000, 100000, 0, 0x00410909},   {153601536, 100001, 0, 0xF0831F3F}, {153701537, 100001, 5, 0},
+        {65784000, 8000, 0, 0xF072FFFF},    {65792000, 8000, 5, 0},             {2000000, 1953, 0, 0x30417F7F},
+        {2000000, 1951, 6, 0},              {2000000, 0, 1, 0},                 {250000001, 400000, 2, 0},
+        {399999, 100000, 3, 0},             {1999999, 100000, 4, 0},
+    };
+    for (size_t i = 0; i < sizeof cases / sizeof cases[0]; i++) {
+        huskerivory_timing_answer t = huskerivory_timing(cases[i].clock, cases[i].frequency);
+        CHECK(t.refusal == cases[i].refusal);
+        CHECK(t.timingr == cases[i].timingr);
+    }
+}
+
+static void check_packing(void) {
+    huskerivory_timing_fields f = huskerivory_unpack(0x60FB1C39);
+    CHECK(f.presc == 6 && f.scldel == 15 && f.sdadel == 11 && f.sclh == 28 && f.scll == 57);
+    huskerivory_timing_answer t = huskerivory_pack(6, 15, 11, 28, 57);
+    CHECK(t.refusal == 0 && t.timingr == 0x60FB1C39);
+    f = huskerivory_unpack(0xFFFFFFFF);
+    CHECK(f.presc == 15 && f.scldel == 15 && f.sdadel == 15 && f.sclh == 255 && f.scll == 255);
+    t = huskerivory_pack(15, 15, 15, 255, 255);
+    CHECK(t.refusal == 0 && t.timingr == 0xF0FFFFFF);
+    for (int field = 0; field < 3; field++) {
+        t = huskerivory_pack(field == 0 ? 16 : 0, field == 1 ? 16 : 0, field == 2 ? 16 : 0, 0, 0);
+        CHECK(t.refusal == HUSKERIVORY_REFUSAL_FIELD_WIDE && t.timingr == 0);
+    }
+}
+
+/* One answer to each advance: it says which register is read next, as huskerivory_next does. */
+static void check_worked_run(void) {
+    static const uint32_t awaited[5] = {0x18, 0x04, 0x18, 0x18, 0x18};
+    call c = worked_call();
+    CHECK(begin(&c) == 0);
+    huskerivory_access access = next(&c);
+    CHECK(access.kind == HUSKERIVORY_ACCESS_WRITE && access.value == 0x04);
+    huskerivory_advanced a = answer_once(&c, 8);
+    for (size_t i = 0; i < 5; i++) {
+        CHECK(a.report == HUSKERIVORY_REPORT_WAITING && a.value == 0 && a.awaited == awaited[i]);
+        access = next(&c);
+        CHECK(access.kind == HUSKERIVORY_ACCESS_READ && access.value == awaited[i]);
+        a = answer_once(&c, 8);
+        CHECK(a.used == 1 && a.written >= 1);
+    }
+    CHECK(a.report == HUSKERIVORY_REPORT_DONE && a.awaited == 0);
+    access = next(&c);
+    CHECK(access.kind == HUSKERIVORY_ACCESS_OVER && access.value == 0);
+    check_text(&c, a);
+
+    call over = c;
+    a = answer_once(&c, 8);
+    CHECK(a.report == HUSKERIVORY_REPORT_DONE && a.value == 0 && a.used == 0 && a.written == 0);
+    CHECK(memcmp(&c, &over, sizeof c) == 0);
+}
+
+/* One log place to each advance, and none to some: the same accesses. */
+static void check_places(void) {
+    call c = worked_call();
+    CHECK(begin(&c) == 0);
+    huskerivory_advanced a = {0, 0, 0, 0, 0};
+    for (size_t i = 0; i < 9; i++) {
+        a = answer_once(&c, 0);
+        CHECK(a.report == HUSKERIVORY_REPORT_FULL && a.used == 0 && a.written == 0);
+        a = answer_once(&c, 1);
+        CHECK(a.written == 1 && c.entries == i + 1);
+        CHECK(a.report == (i < 8 ? HUSKERIVORY_REPORT_FULL : HUSKERIVORY_REPORT_DONE));
+    }
+    check_text(&c, a);
+}
+
+/* Advances until the call has ended, with all answers that are left and a log of so many places each time. */
+static call run_long(const uint8_t *answers, size_t answers_len, size_t places) {
+    call c = worked_call();
+    put_word(c.operations, 255);
+    c.buffer_len = 255;
+    for (size_t i = 0; i < c.buffer_len; i++) {
+        c.buffer[i] = (uint8_t)(i + 1);
+    }
+    CHECK(begin(&c) == 0);
+    huskerivory_advanced a;
+    do {
+        size_t left = PLACES - c.entries;
+        a = advance(&c, answers + 4 * c.used, answers_len - 4 * c.used, left < places ? left : places);
+    } while (a.report == HUSKERIVORY_REPORT_FULL && a.written == places);
+    CHECK(a.report == HUSKERIVORY_REPORT_DONE && a.value == 0);
+    return c;
+}
+
+/* 255 bytes out: 515 accesses over 258 answers, in one advance and in many. */
+static void check_long(void) {
+    static const size_t places[] = {1, 2, 7, 8, 9, 127, 128, 129, 135, 136, 137, 300, 514, 515};
+    uint8_t answers[4 * 258];
+    for (size_t i = 0; i < 258; i++) {
+        put_word(answers + 4 * i, i == 0 ? 1 : i == 1 ? 0 : i == 257 ? 0x20 : 3);
+    }
+    call whole = run_long(answers, sizeof answers, PLACES);
+    CHECK(whole.used == 258 && whole.entries == 515);
+    for (size_t i = 0; i < 255; i++) {
+        const uint8_t *entry = whole.log + (4 + 2 * i) * HUSKERIVORY_LOG_ENTRY;
+        CHECK(get_word(entry) == (HUSKERIVORY_LOG_WRITE | 0x28) && get_word(entry + 4) == i + 1);
+    }
+    for (size_t i = 0; i < sizeof places / sizeof places[0]; i++) {
+        call cut = run_long(answers, sizeof answers, places[i]);
+        CHECK(memcmp(&cut, &whole, sizeof cut) == 0);
+    }
+}
+
+static void check_bytes_in(void) {
+    static const uint32_t read_two[7] = {1, 0, 4, 0xFFFFFFAB, 4, 0x1CD, 0x20};
+    uint8_t answers[4 * 7];
+    call c = worked_call();
+    put_word(c.operations, HUSKERIVORY_OPERATION_READ | 2);
+    for (int i = 0; i < 7; i++) {
+        put_word(answers + 4 * i, read_two[i]);
+    }
+    CHECK(begin(&c) == 0);
+    huskerivory_advanced a = advance(&c, answers, sizeof answers, PLACES);
+    CHECK(a.report == HUSKERIVORY_REPORT_DONE && a.used == 7 && a.written == 9);
+    CHECK(c.buffer[0] == 0xAB && c.buffer[1] == 0xCD && c.buffer[2] == 0);
+}
+
+/* OAR1 for own address 0x42, and OAR2 for 0x21 with mask 2. */
+static void check_addresses(void) {
+    call c = worked_call();
+    c.description.call = HUSKERIVORY_CALL_CONFIGURE_TARGET_ADDRESSES;
+    c.description.own = 0x42;
+    c.description.secondary = 0x21;
+    c.description.mask = 2;
+    CHECK(begin(&c) == 0);
+    huskerivory_advanced a = advance(&c, c.buffer, 0, PLACES);
+    CHECK(a.report == HUSKERIVORY_REPORT_DONE && a.used == 0 && a.written == 2);
+    CHECK(get_word(c.log) == (HUSKERIVORY_LOG_WRITE | 0x08) && get_word(c.log + 4) == 0x84);
+    CHECK(get_word(c.log + 8) == (HUSKERIVORY_LOG_WRITE | 0x0C) && get_word(c.log + 12) == 0x342);
+}
+
+/* A refused advance, with an answer and places lent: nothing changes. So many bytes of `saved` are lent. */
+static void check_refused(call *c, size_t saved_len, uint32_t number) {
+    uint8_t answer[4] = {3, 0, 0, 0};
+    call before = *c;
+    huskerivory_advanced a =
+        huskerivory_advance(c->description, c->operations, c->operations_len, c->saved, saved_len, c->buffer, c->buffer_len,
+                            answer, sizeof answer, c->log, sizeof c->log);
+    CHECK(a.report == HUSKERIVORY_REPORT_REFUSED && a.value == number);
+    CHECK(a.awaited == 0 && a.used == 0 && a.written == 0);
+    huskerivory_access access = next_of(c, saved_len);
+    CHECK(access.kind == HUSKERIVORY_ACCESS_REFUSED && access.value == number);
+    CHECK(memcmp(c, &before, sizeof before) == 0);
+}
+
+/* A call that has begun and awaits its second answer. */
+static call half_way(void) {
+    call c = worked_call();
+    CHECK(begin(&c) == 0);
+    answer_once(&c, 8);
+    answer_once(&c, 8);
+    return c;
+}
+
+static void check_damaged(void) {
+    static const struct {
+        uint32_t place, word, other_place, other_word;
+    } damages[] = {
+        {0, 8, 0, 8},    /* another call's number */
+        {0, 0, 28, 0},   /* that of a refused begin */
+        {4, 1, 4, 1},    /* no such operation */
+        {8, 4, 8, 4},    /* no such byte */
+        {8, 2, 28, 5},   /* the byte that is to be moved is not there */
+        {20, 10, 24, 0}, /* no such outcome */
+        {20, 1, 24, 1},  /* a bus error with a value */
+        {28, 21, 28, 21}, /* a step of other calls */
+        {28, 46, 28, 46}, /* no such step */
+        {28, 0xFFFFFFFF, 20, 0xFFFFFFFF},
+    };
+    for (size_t i = 0; i < sizeof damages / sizeof damages[0]; i++) {
+        call c = half_way();
+        put_word(c.saved + damages[i].place, damages[i].word);
+        put_word(c.saved + damages[i].other_place, damages[i].other_word);
+        check_refused(&c, sizeof c.saved, HUSKERIVORY_REFUSAL_SAVED_CALL);
+    }
+    call c = half_way();
+    check_refused(&c, sizeof c.saved - 1, HUSKERIVORY_REFUSAL_SAVED_CALL);
+    check_refused(&c, 0, HUSKERIVORY_REFUSAL_SAVED_CALL);
+}
+
+static int is_filled(const uint8_t *bytes, size_t size, uint8_t with) {
+    for (size_t i = 0; i < size; i++) {
+        if (bytes[i] != with) {
+            return 0;
+        }
+    }
+    return 1;
+}
+
+/* A refused begin clears the saved call, and what it left is no saved call; an advance of a call begun before changes nothing. */
+static void check_refused_call(call c, uint32_t number) {
+    check_refused(&c, sizeof c.saved, number);
+    memset(c.saved, BLANK, sizeof c.saved);
+    CHECK(huskerivory_begin(c.description, c.operations, c.operations_len, c.buffer, c.buffer_len, c.saved, 31) == number);
+    CHECK(is_filled(c.saved, sizeof c.saved, BLANK));
+    CHECK(begin(&c) == number);
+    CHECK(is_filled(c.saved, sizeof c.saved, 0));
+    check_refused(&c, sizeof c.saved, number);
+}
+
+static void check_descriptions(void) {
+    call c = half_way();
+    c.description.call = 30;
+    check_refused_call(c, HUSKERIVORY_REFUSAL_NO_SUCH_CALL);
+    c = half_way();
+    c.description.address = 128;
+    check_refused_call(c, HUSKERIVORY_REFUSAL_ADDRESS);
+    c = half_way();
+    c.buffer_len = 3;
+    check_refused_call(c, HUSKERIVORY_REFUSAL_LIST);
+    c = half_way();
+    c.description.call = HUSKERIVORY_CALL_READ;
+    c.buffer_len = 0;
+    check_refused_call(c, HUSKERIVORY_REFUSAL_BUFFER);
+    c = half_way();
+    call before = c;
+    CHECK(huskerivory_begin(c.description, c.operations, c.operations_len, c.buffer, c.buffer_len, c.saved, 31) ==
+          HUSKERIVORY_REFUSAL_SAVED_CALL);
+    CHECK(memcmp(&c, &before, sizeof c) == 0);
+}
+
+static void check_long_lists(void) {
+    static uint8_t operations[4 * 66], buffer[256], saved[HUSKERIVORY_SAVED_CALL];
+    huskerivory_description d = {0};
+    d.call = HUSKERIVORY_CALL_TRANSACTION;
+    CHECK(huskerivory_begin(d, operations, 4 * 64 + 3, buffer, 0, saved, sizeof saved) == 0);
+    CHECK(huskerivory_begin(d, operations, 4 * 65, buffer, 0, saved, sizeof saved) == HUSKERIVORY_REFUSAL_LIST);
+    CHECK(huskerivory_begin(d, operations, 4 * 66, buffer, 0, saved, sizeof saved) == HUSKERIVORY_REFUSAL_LIST);
+    put_word(operations, 256);
+    CHECK(huskerivory_begin(d, operations, 4, buffer, 256, saved, sizeof saved) == HUSKERIVORY_REFUSAL_LONG);
+    put_word(operations, 0x20000);
+    CHECK(huskerivory_begin(d, operations, 4, buffer, 0, saved, sizeof saved) == HUSKERIVORY_REFUSAL_LIST);
+}
+
+int main(void) {
+    run_group("layout of the structs", check_layout);
+    run_group("timing", check_timings);
+    run_group("packing and unpacking", check_packing);
+    run_group("the worked run, one answer at a time", check_worked_run);
+    run_group("the worked run, one log place at a time", check_places);
+    run_group("a long transaction, in one advance and in many", check_long);
+    run_group("bytes that come in", check_bytes_in);
+    run_group("own addresses", check_addresses);
+    run_group("damaged saved calls", check_damaged);
+    run_group("refused descriptions", check_descriptions);
+    run_group("lists that are too long", check_long_lists);
+    return failed_groups == 0 ? 0 : 1;
+}

@@ -1,0 +1,120 @@
+//! What can go wrong.
+
+use core::fmt;
+
+/// Why a call failed.
+#[derive(Clone, Copy, Debug, PartialEq, Eq)]
+pub enum Error {
+    /// A misplaced start or stop on the bus.
+    Bus,
+    /// Another controller won the bus.
+    ArbitrationLoss,
+    /// The address or a byte was not acknowledged.
+    NoAcknowledge,
+    /// A stop or a new start came before the end.
+    Stopped,
+    /// The controller writes, and the target was to do something else than read.
+    ExpectedRead,
+    /// The controller reads, and the target was to do something else than write.
+    ExpectedWrite,
+    /// The call cannot be made. No register was touched and no byte changed.
+    Refused(Refusal),
+}
+
+/// Document 01's number of a refusal.
+#[derive(Clone, Copy, Debug, PartialEq, Eq)]
+pub struct Refusal(pub u32);
+
+impl Refusal {
+    /// Its words in document 01.
+    pub const fn words(self) -> &'static str {
+        match self.0 {
+            1 => "no speed",
+            2 => "clock over",
+            3 => "ratio",
+            4 => "clock slow",
+            5 => "speed low",
+            6 => "no setup",
+            7 => "field wide",
+            8 => "address",
+            9 => "long",
+            10 => "list",
+            11 => "buffer",
+            12 => "no such call",
+            13 => "saved call",
+            _ => "unknown",
+        }
+    }
+}
+
+impl fmt::Display for Refusal {
+    fn fmt(&self, f: &mut fmt::Formatter<'_>) -> fmt::Result {
+        write!(f, "refused {} {}", self.0, self.words())
+    }
+}
+
+impl From<Refusal> for Error {
+    fn from(refusal: Refusal) -> Self {
+        Error::Refused(refusal)
+    }
+}
+
+/// The kinds of errors of `embedded_hal::i2c`, under its names. This crate has no dependencies;
+/// firmware that has embedded-hal wraps [`Error`] and names the kind:
+///
+/// ```text
+/// impl embedded_hal::i2c::Error for BusError {
+///     fn kind(&self) -> embedded_hal::i2c::ErrorKind { kind_of(self.0.kind()) }
+/// }
+/// ```
+///
+/// `tests/embedded_hal.rs` has this in full, with the trait `I2c`.
+#[derive(Clone, Copy, Debug, PartialEq, Eq)]
+pub enum ErrorKind {
+    /// A misplaced start or stop on the bus.
+    Bus,
+    /// Another controller won the bus.
+    ArbitrationLoss,
+    /// The address or a byte was not acknowledged.
+    NoAcknowledge(NoAcknowledgeSource),
+    /// Anything else.
+    Other,
+}
+
+/// What was not acknowledged. The peripheral does not tell.
+#[derive(Clone, Copy, Debug, PartialEq, Eq)]
+pub enum NoAcknowledgeSource {
+    /// The address or a byte.
+    Unknown,
+}
+
+impl Error {
+    /// The kind of error in embedded-hal's terms.
+    pub const fn kind(&self) -> ErrorKind {
+        match self {
+            Error::Bus => ErrorKind::Bus,
+            Error::ArbitrationLoss => ErrorKind::ArbitrationLoss,
+            Error::NoAcknowledge => ErrorKind::NoAcknowledge(NoAcknowledgeSource::Unknown),
+            Error::Stopped | Error::ExpectedRead | Error::ExpectedWrite | Error::Refused(_) => {
+                ErrorKind::Other
+            }
+        }
+    }
+}
+
+impl fmt::Display for Error {
+    fn fmt(&self, f: &mut fmt::Formatter<'_>) -> fmt::Result {
+        f.write_str(match self {
+            Error::Bus => "bus",
+            Error::ArbitrationLoss => "arbitration",
+            Error::NoAcknowledge => "nack",
+            Error::Stopped => "stopped",
+            Error::ExpectedRead => "expected-read",
+            Error::ExpectedWrite => "expected-write",
+            Error::Refused(refusal) => return refusal.fmt(f),
+        })
+    }
+}
+
+impl core::error::Error for Error {}
+impl core::error::Error for Refusal {}

@@ -1,0 +1,37 @@
+//! What comes of a call that did not fail.
+
+/// What a target is told by the bus.
+#[derive(Clone, Copy, Debug, PartialEq, Eq)]
+pub enum TargetEvent {
+    /// The controller reads: the target is to write.
+    Read {
+        /// The address that the controller called.
+        address: u16,
+    },
+    /// The controller writes: the target is to read.
+    Write {
+        /// The address that the controller called.
+        address: u16,
+    },
+    /// A stop.
+    Stop,
+}
+
+/// How a call ended well.
+#[derive(Clone, Copy, Debug, PartialEq, Eq)]
+pub enum Outcome {
+    /// It is done, and a target's transfer counts so many bytes; other calls count 0.
+    Done(u32),
+    /// The event that was waited for.
+    Event(TargetEvent),
+}
+
+impl Outcome {
+    /// The bytes that a target's transfer counts.
+    pub const fn count(self) -> usize {
+        match self {
+            Outcome::Done(count) => count as usize,
+            Outcome::Event(_) => 0,
+        }
+    }
+}
