@@ -3,13 +3,16 @@
 mod answer;
 mod bench;
 mod calls;
+mod damaged;
 mod difference;
 mod packing;
 mod pairs;
 mod process;
 mod random;
 mod rattle;
+mod runs;
 mod shrink;
+mod speed;
 mod store;
 mod timing;
 
@@ -17,6 +20,9 @@ use std::{env, process::ExitCode};
 
 const USAGE: &str = "usage: compare timing [--pairs N] [--seed S]
        compare packing [--seed S]
+       compare runs [--runs N | --seconds S] [--seed X]
+       compare speed
+       compare damaged [--calls N | --seconds S] [--seed X] [--heap]
        compare calls --program FILE [--runs N] [--seed S]
        compare bench --program FILE [--files N] [--seed S]
        compare bench-text --file FILE
@@ -49,6 +55,33 @@ fn command(mut arguments: Arguments) -> Result<bool, String> {
             let seed = arguments.number("--seed", 1)?;
             arguments.none_left()?;
             Ok(packing::compare(seed))
+        }
+        "runs" => {
+            let seconds = arguments.number("--seconds", 0)?;
+            let runs = arguments.number("--runs", 1_000_000)?;
+            let seed = arguments.number("--seed", 1)?;
+            arguments.none_left()?;
+            let limit = match seconds {
+                0 => runs::Limit::Runs(runs),
+                _ => runs::Limit::Seconds(seconds),
+            };
+            runs::compare(limit, seed).map_err(|error| error.to_string())
+        }
+        "speed" => {
+            arguments.none_left()?;
+            Ok(speed::compare())
+        }
+        "damaged" => {
+            let seconds = arguments.number("--seconds", 0)?;
+            let calls = arguments.number("--calls", 1_000_000)?;
+            let seed = arguments.number("--seed", 1)?;
+            let heap = arguments.flag("--heap");
+            arguments.none_left()?;
+            let limit = match seconds {
+                0 => damaged::Limit::Calls(calls),
+                _ => damaged::Limit::Seconds(seconds),
+            };
+            Ok(damaged::compare(limit, seed, heap))
         }
         "calls" => {
             let program = arguments.needed("--program")?;

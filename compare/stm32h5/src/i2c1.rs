@@ -32,6 +32,12 @@ impl RegisterBlock {
         log.reserve(2 * answers.len() + 8);
     }
 
+    /// Starts anew with the same answers.
+    pub fn rewind(&mut self) {
+        self.used.set(0);
+        self.log.get_mut().clear();
+    }
+
     /// Has the reads for which the list has no answer answered by choice.
     pub fn answer_by(&mut self, choose: impl FnMut(u32) -> Option<u32> + 'static) {
         self.choose = RefCell::new(Some(Box::new(choose)));

@@ -62,6 +62,21 @@ impl Answers {
         }
     }
 
+    /// Answers by which a call comes to its end, however long it is.
+    pub fn to_the_end(call: u32, length: usize, random: Random) -> Self {
+        let mut answers = Answers::new(call, length, random);
+        if answers.bytes != u32::MAX {
+            answers.bytes = length as u32 + answers.random.up_to(3);
+        }
+        Answers {
+            left: u32::MAX,
+            idle: answers.idle.min(100),
+            wrong: 0,
+            any: 0,
+            ..answers
+        }
+    }
+
     /// The answer to a read of the register at this offset, if there is one left.
     pub fn choose(&mut self, offset: u32) -> Option<u32> {
         self.left = self.left.checked_sub(1)?;

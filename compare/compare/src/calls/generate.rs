@@ -23,12 +23,61 @@ pub fn case(random: &mut Random) -> Case {
     case
 }
 
+/// As `case`; but one in 32 has its lengths at their limits and goes to its end.
+pub fn case_or_edge(random: &mut Random) -> Case {
+    if random.up_to(31) == 0 {
+        edge(random)
+    } else {
+        case(random)
+    }
+}
+
+fn edge(random: &mut Random) -> Case {
+    let mut case = Case::default();
+    let asked = &mut case.asked;
+    asked.call = random.pick(&TRANSFERS);
+    let length = if asked.call == 7 {
+        asked.operations = edge_operations(random);
+        asked.operations.iter().map(|it| it & 0xFFFF).sum::<u32>() as usize
+    } else if random.up_to(63) == 0 {
+        65_534 + random.up_to(2) as usize
+    } else {
+        random.pick(&[0, 1, 253, 254, 255, 256, 257, 509, 510, 511, 512])
+    };
+    case.buffer.resize_with(length, || random.word() as u8);
+    case.answers = chosen(&case, random, Answers::to_the_end);
+    case
+}
+
+/// Lengths at their limits, and counts at theirs; now and then one too much of either.
+fn edge_operations(random: &mut Random) -> Vec<u32> {
+    let count = match random.up_to(15) {
+        0 => 63 + random.up_to(1),
+        1 if random.up_to(3) == 0 => 65,
+        _ => 1 + random.up_to(2),
+    };
+    let most = if random.up_to(15) == 0 { 4 } else { 3 };
+    let mut operation = || {
+        let length = [0, 1, 254, 255, 256][random.up_to(most) as usize];
+        length | random.pick(&[0, READ])
+    };
+    (0..count).map(|_| operation()).collect()
+}
+
 /// Answers as the driver asks for them, and perhaps a few more.
 pub fn answers(case: &Case, random: &mut Random) -> Vec<u32> {
+    chosen(case, random, Answers::new)
+}
+
+fn chosen(
+    case: &Case,
+    random: &mut Random,
+    choices: impl FnOnce(u32, usize, Random) -> Answers,
+) -> Vec<u32> {
     let Case { asked, buffer, .. } = case;
     let mut answers = Vec::new();
     if asked.refusal(buffer.len()).is_none() {
-        let mut choices = Answers::new(asked.call, buffer.len(), random.split());
+        let mut choices = choices(asked.call, buffer.len(), random.split());
         let choose = move |offset| choices.choose(offset);
         answers = explore(&asked.description(), &mut buffer.clone(), choose);
     }

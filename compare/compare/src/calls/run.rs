@@ -87,7 +87,7 @@ impl Run {
 
 /// The bytes of the blocks that were put out whole before a NACK at byte 0 of the next: document 01
 /// counts 0 for that one. The flush may have put out one byte more.
-fn whole_blocks(log: &[Access]) -> u32 {
+pub fn whole_blocks(log: &[Access]) -> u32 {
     let put = log.iter().filter(|access| access[0] == 0x128).count() as u32;
     put / 255 * 255
 }

@@ -26,7 +26,7 @@ pub fn texts() -> (String, String) {
 
 pub type Described = (&'static str, Case);
 
-fn calls() -> Vec<Described> {
+pub fn calls() -> Vec<Described> {
     [
         set_up(),
         transactions(),

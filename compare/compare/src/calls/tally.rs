@@ -5,61 +5,69 @@ use std::collections::BTreeMap;
 use super::generate::LISTED;
 use super::run::Run;
 
+/// Document 01's outcome words, in the order of an advance's reports.
+pub const WORDS: [&str; 12] = [
+    "done",
+    "bus",
+    "arbitration",
+    "nack",
+    "stopped",
+    "expected-write",
+    "expected-read",
+    "event-read",
+    "event-write",
+    "event-stop",
+    "waiting",
+    "refused",
+];
+
+const REFUSED: usize = 11;
+
 /// How often each call came out in each way.
 #[derive(Default)]
 pub struct Tally {
     pub runs: u64,
-    ends: BTreeMap<(u32, &'static str), u64>,
+    /// By the call's number, then by the place of the word.
+    ends: BTreeMap<u32, [u64; WORDS.len()]>,
     refusals: BTreeMap<u32, u64>,
     panics: u64,
 }
 
 impl Tally {
-    const WORDS: [&'static str; 12] = [
-        "done",
-        "bus",
-        "arbitration",
-        "nack",
-        "stopped",
-        "expected-write",
-        "expected-read",
-        "event-read",
-        "event-write",
-        "event-stop",
-        "waiting",
-        "refused",
-    ];
-
     pub fn count(&mut self, run: &Run) {
-        self.runs += 1;
-        *self.ends.entry((run.call, run.word)).or_default() += 1;
-        if run.is_refused() {
-            *self.refusals.entry(run.value).or_default() += 1;
-        }
-        self.panics += u64::from(run.panics);
+        let place = WORDS.iter().position(|&word| word == run.word);
+        let place = place.expect("a run has one of the words");
+        self.add(run.call, place, run.value, run.panics);
     }
 
-    fn ended(&self, call: u32, word: &'static str) -> u64 {
-        self.ends.get(&(call, word)).copied().unwrap_or(0)
+    /// Counts a run by the place of its word.
+    pub fn add(&mut self, call: u32, word: usize, value: u32, panics: bool) {
+        self.runs += 1;
+        self.ends.entry(call).or_default()[word] += 1;
+        if word == REFUSED {
+            *self.refusals.entry(value).or_default() += 1;
+        }
+        self.panics += u64::from(panics);
+    }
+
+    fn ended(&self, call: u32) -> [u64; WORDS.len()] {
+        self.ends.get(&call).copied().unwrap_or_default()
     }
 
     pub fn print(&self) {
         print!("{:>5}", "call");
-        for word in Self::WORDS {
+        for word in WORDS {
             print!("{word:>15}");
         }
         println!();
         for call in LISTED {
             print!("{call:>5}");
-            for word in Self::WORDS {
-                print!("{:>15}", self.ended(call, word));
+            for count in self.ended(call) {
+                print!("{count:>15}");
             }
             println!();
         }
-        let listed: u64 = LISTED
-            .iter()
-            .flat_map(|&call| Self::WORDS.map(|word| self.ended(call, word)))
-            .sum();
+        let listed: u64 = LISTED.iter().flat_map(|&call| self.ended(call)).sum();
         println!("unlisted: {}", self.runs - listed);
         for (refusal, count) in &self.refusals {
             println!("refusal {refusal}: {count}");
@@ -73,10 +81,10 @@ impl Tally {
     /// Whether every listed call was accepted, and every outcome, every refusal of a begin and the
     /// one known difference came up.
     pub fn all_reached(&self) -> bool {
-        let accepted = |call| Self::WORDS[..11].iter().any(|it| self.ended(call, it) > 0);
+        let accepted = |call| self.ended(call)[..REFUSED].iter().any(|&count| count > 0);
         let calls = LISTED.into_iter().all(accepted);
-        let came = |word| LISTED.iter().any(|&it| self.ended(it, word) > 0);
-        let words = Self::WORDS.into_iter().all(came);
+        let came = |word: usize| LISTED.iter().any(|&call| self.ended(call)[word] > 0);
+        let words = (0..WORDS.len()).all(came);
         let refusals = (8..=12).all(|refusal| self.refusals.contains_key(&refusal));
         calls && words && refusals && self.panics > 0
     }

@@ -1,0 +1,360 @@
+//! `compare damaged`: random and damaged bytes through every function of the boundary.
+//!
+//! Each slice is lent so that a touched byte before or after it is seen: at a page that cannot be
+//! touched, or, for a tool that watches the heap, as an allocation of its own. Of every call it is
+//! held that it gives something document 01 allows for what was lent, and that a refusal changes
+//! nothing.
+
+mod bytes;
+mod memory;
+
+use std::time::{Duration, Instant};
+
+use oracle::Fields;
+
+use crate::random::Random;
+use crate::rattle::{
+    self, saved, Advanced, Next, ENTRY, FULL, NONE_REFUSED, REFUSED, SAVED, WAITING,
+};
+use bytes::Bytes;
+use memory::Memory;
+
+/// A real run is left for another after so many calls, ended or not.
+const CALLS: u64 = 100;
+
+const EVERY: Duration = Duration::from_secs(5);
+
+/// The most that one of the slices may have.
+const MOST: usize = 80_000;
+
+pub enum Limit {
+    Calls(u64),
+    Seconds(u64),
+}
+
+/// Makes calls. True if all went well; a touched guard ends the program.
+pub fn compare(limit: Limit, seed: u64, heap: bool) -> bool {
+    println!("damaged: from seed {seed}");
+    memory::tell_faults();
+    let mut boundary = Boundary::new(heap);
+    let mut random = Random::new(seed);
+    let start = Instant::now();
+    let mut told = start;
+    let goes_on = |calls| match limit {
+        Limit::Calls(most) => calls < most,
+        Limit::Seconds(seconds) => start.elapsed().as_secs() < seconds,
+    };
+    while goes_on(boundary.calls) {
+        if told.elapsed() >= EVERY {
+            told = Instant::now();
+            eprintln!("damaged: {} calls", boundary.calls);
+        }
+        let mut real = Bytes::begun(&mut random);
+        for _ in 0..CALLS {
+            if let Err(wrong) = boundary.call(&mut real, &mut random) {
+                println!("damaged: {wrong}");
+                return false;
+            }
+        }
+    }
+    boundary.print();
+    boundary.calls < 100_000 || boundary.all_reached()
+}
+
+/// The memory that is lent, and what came of it.
+struct Boundary {
+    operations: Memory,
+    saved: Memory,
+    buffer: Memory,
+    answers: Memory,
+    log: Memory,
+    calls: u64,
+    /// Advances by their reports, and refused ones by their numbers.
+    reports: [u64; 13],
+    refusals: [u64; 14],
+}
+
+impl Boundary {
+    fn new(heap: bool) -> Self {
+        let memory = || match heap {
+            true => Memory::heap(),
+            false => Memory::guarded(MOST),
+        };
+        Boundary {
+            operations: memory(),
+            saved: memory(),
+            buffer: memory(),
+            answers: memory(),
+            log: memory(),
+            calls: 0,
+            reports: [0; 13],
+            refusals: [0; 14],
+        }
+    }
+
+    fn print(&self) {
+        println!("damaged: advances by report: {:?}", self.reports);
+        println!("damaged: refused ones by number: {:?}", self.refusals);
+        println!("damaged: {} calls, all as they should be", self.calls);
+    }
+
+    fn all_reached(&self) -> bool {
+        let all = self.reports.iter().all(|&count| count > 0)
+            && self.refusals[8..].iter().all(|&count| count > 0);
+        if !all {
+            println!("damaged: a report or a refusal was not reached");
+        }
+        all
+    }
+
+    /// Makes a call or two on a real run, mostly with something damaged.
+    fn call(&mut self, real: &mut Bytes, random: &mut Random) -> Result<(), String> {
+        let mut lent = real.lent(random);
+        let damaged = random.up_to(3) != 0;
+        if damaged {
+            lent.damage(random);
+        }
+        match random.up_to(7) {
+            0 => self.begin(&lent, random),
+            1 => {
+                self.timing(random);
+                Ok(())
+            }
+            _ => self.advance(&lent, random).map(|(given, after)| {
+                if !damaged {
+                    real.go_on(after, given.used);
+                }
+            }),
+        }
+        .map_err(|wrong| format!("call {}: {wrong}\n{lent:X?}", self.calls))
+    }
+
+    fn count(&mut self) {
+        self.calls += 1;
+        memory::note(self.calls);
+    }
+
+    /// Numbers have no bytes to damage: that the calls come back is all.
+    fn timing(&mut self, random: &mut Random) {
+        self.count();
+        let _ = rattle::timing(random.of_length(32), random.of_length(32));
+        self.count();
+        let [presc, scldel, sdadel, sclh] = random.word().to_le_bytes();
+        let _ = rattle::pack(Fields {
+            presc,
+            scldel: scldel & 15,
+            sdadel: sdadel & 31,
+            sclh,
+            scll: random.word() as u8,
+        });
+        self.count();
+        let _ = rattle::unpack(random.word());
+    }
+
+    fn begin(&mut self, lent: &Bytes, random: &mut Random) -> Result<(), String> {
+        self.count();
+        let operations = self.operations.lend(&lent.operations, to_end(random));
+        let buffer = self.buffer.lend(&lent.buffer, to_end(random));
+        let saved = self.saved.lend(&lent.saved, to_end(random));
+        let given = rattle::begin(lent.description, operations, buffer, saved);
+        kept("the operations", operations, &lent.operations)?;
+        kept("the buffer", buffer, &lent.buffer)?;
+        let length = (saved.len() != SAVED).then_some(13);
+        let refusal = lent.refusal().or(length).unwrap_or(0);
+        held("begin's number", given == refusal)?;
+        if saved.len() != SAVED {
+            return kept("the saved call", saved, &lent.saved);
+        }
+        let mut expected = [0; SAVED];
+        if given == 0 {
+            expected[..4].copy_from_slice(&lent.description.call.to_le_bytes());
+            expected[4 * saved::STEP] = saved[4 * saved::STEP];
+            held("the step", saved[4 * saved::STEP] <= 45)?;
+        }
+        kept("the begun call", saved, &expected)
+    }
+
+    /// Asks for the next access, then advances: both are of one mind. Gives what is left after.
+    fn advance(&mut self, lent: &Bytes, random: &mut Random) -> Result<(Advanced, Bytes), String> {
+        self.count();
+        let operations = self.operations.lend(&lent.operations, to_end(random));
+        let buffer = self.buffer.lend(&lent.buffer, to_end(random));
+        let saved = self.saved.lend(&lent.saved, to_end(random));
+        let next = rattle::next(lent.description, operations, saved, buffer);
+        kept("the saved call", saved, &lent.saved)?;
+        kept("the buffer", buffer, &lent.buffer)?;
+
+        self.calls += 1;
+        memory::note(self.calls);
+        let answers = self.answers.lend(&lent.answers, to_end(random));
+        let log = self.log.lend(&lent.log, to_end(random));
+        let given = rattle::advance(lent.description, operations, saved, buffer, answers, log);
+        kept("the operations", operations, &lent.operations)?;
+        kept("the answers", answers, &lent.answers)?;
+        let after = Bytes {
+            description: lent.description,
+            saved: saved.to_vec(),
+            buffer: buffer.to_vec(),
+            log: log.to_vec(),
+            ..Default::default()
+        };
+        held("the report", given.report <= FULL)?;
+        self.reports[given.report as usize] += 1;
+        if given.report == REFUSED {
+            held("a refusal's number", (8..=13).contains(&given.value))?;
+            self.refusals[given.value as usize] += 1;
+        }
+        lent.hold_next(next, given)?;
+        lent.hold_refusal(given, &after)?;
+        lent.hold_progress(given, &after, next)?;
+        if given.report != REFUSED {
+            let again = rattle::next(lent.description, operations, saved, buffer);
+            held("the call after is taken", again.kind != NONE_REFUSED)?;
+        }
+        Ok((given, after))
+    }
+}
+
+fn to_end(random: &mut Random) -> bool {
+    random.up_to(1) == 0
+}
+
+fn held(what: &str, holds: bool) -> Result<(), String> {
+    if holds {
+        Ok(())
+    } else {
+        Err(format!("{what} is wrong"))
+    }
+}
+
+fn kept(what: &str, given: &[u8], expected: &[u8]) -> Result<(), String> {
+    held(what, given == expected)
+}
+
+impl Bytes {
+    /// The refusal that is certain: of the description, or of bytes that are no saved call of this
+    /// call.
+    fn any_refusal(&self) -> Option<u32> {
+        self.refusal().or_else(|| (!self.is_saved()).then_some(13))
+    }
+
+    fn is_saved(&self) -> bool {
+        if self.saved.len() != SAVED {
+            return false;
+        }
+        let word = |number| rattle::word(&self.saved, number);
+        let outcome = match word(saved::OUTCOME) {
+            0 | 7 | 8 => true,
+            outcome => outcome <= 9 && word(saved::VALUE) == 0,
+        };
+        outcome && word(saved::STEP) <= 45 && word(saved::CALL) == self.description.call
+    }
+
+    fn hold_refusal(&self, given: Advanced, after: &Bytes) -> Result<(), String> {
+        if let Some(refusal) = self.any_refusal() {
+            let right = given.report == REFUSED && given.value == refusal;
+            held(&format!("refusal {refusal}"), right)?;
+        }
+        if given.report != REFUSED {
+            return Ok(());
+        }
+        let Advanced {
+            awaited,
+            used,
+            written,
+            ..
+        } = given;
+        held("a refusal's counts", (awaited, used, written) == (0, 0, 0))?;
+        kept("the saved call of a refusal", &after.saved, &self.saved)?;
+        kept("the buffer of a refusal", &after.buffer, &self.buffer)?;
+        kept("the log of a refusal", &after.log, &self.log)
+    }
+
+    /// The next access is the first that the advance made, or what it lacked.
+    fn hold_next(&self, next: Next, given: Advanced) -> Result<(), String> {
+        let Next { kind, value } = next;
+        let reads = given.report == WAITING && given.awaited == value;
+        let right = match kind {
+            rattle::OVER => value == 0 && given.report < WAITING && given.written == 0,
+            rattle::READ => given.written > 0 || given.report == FULL || reads,
+            rattle::WRITE => given.written > 0 || given.report == FULL,
+            NONE_REFUSED => given.report == REFUSED && given.value == value,
+            _ => false,
+        };
+        held("the next access", right)
+    }
+
+    /// What an advance used and wrote lies within what it was lent, and agrees with its report.
+    fn hold_progress(&self, given: Advanced, after: &Bytes, next: Next) -> Result<(), String> {
+        if given.report == REFUSED {
+            return Ok(());
+        }
+        let answers = self.answers.len() / 4;
+        let places = self.log.len() / ENTRY;
+        held("the count of answers", given.used <= answers)?;
+        held("the count of entries", given.written <= places)?;
+        held("full", given.report != FULL || given.written == places)?;
+        held("waiting", given.report != WAITING || given.used == answers)?;
+        held(
+            "what is awaited",
+            given.report == WAITING || given.awaited == 0,
+        )?;
+        let written = given.written * ENTRY;
+        kept(
+            "the rest of the log",
+            &after.log[written..],
+            &self.log[written..],
+        )?;
+        let first = after.hold_entries(given, &self.answers)?;
+        let code = match next.kind {
+            rattle::WRITE => next.value + 0x100,
+            _ => next.value,
+        };
+        held("the first entry", first.is_none_or(|first| first == code))?;
+        self.hold_saved(given, after)
+    }
+
+    fn hold_saved(&self, given: Advanced, after: &Bytes) -> Result<(), String> {
+        let before = |number| rattle::word(&self.saved, number);
+        let now = |number| rattle::word(&after.saved, number);
+        let accesses = before(saved::ACCESSES).saturating_add(given.written as u32);
+        held("the count of accesses", now(saved::ACCESSES) == accesses)?;
+        held("the call's number", now(saved::CALL) == before(saved::CALL))?;
+        let over = given.report < WAITING;
+        let outcome = (now(saved::OUTCOME), now(saved::VALUE)) == (given.report, given.value);
+        held("the outcome", !over || outcome && now(saved::STEP) == 0)?;
+        held("the end", over || now(saved::STEP) != 0)?;
+        let same = self.buffer.iter().zip(&after.buffer);
+        let changed = same.filter(|(before, after)| before != after).count();
+        let received = after.codes(given.written).filter(|&code| code == 0x24);
+        held("the buffer", changed <= received.count())
+    }
+
+    fn codes(&self, entries: usize) -> impl Iterator<Item = u32> + '_ {
+        (0..entries).map(|entry| rattle::word(&self.log, 2 * entry))
+    }
+
+    /// Each entry is of a register, and reads have the answers in order. Gives the first's code.
+    fn hold_entries(&self, given: Advanced, answers: &[u8]) -> Result<Option<u32>, String> {
+        const REGISTERS: [u32; 9] = [0x00, 0x04, 0x08, 0x0C, 0x10, 0x18, 0x1C, 0x24, 0x28];
+        let mut used = 0;
+        for (entry, code) in self.codes(given.written).enumerate() {
+            held("an entry", REGISTERS.contains(&(code & !0x100)))?;
+            if code < 0x100 {
+                let answer = (used < given.used).then(|| rattle::word(answers, used));
+                let value = rattle::word(&self.log, 2 * entry + 1);
+                held("a read's value", answer == Some(value))?;
+                used += 1;
+            }
+        }
+        held("the count of reads", used == given.used)?;
+        Ok(self.codes(given.written).next())
+    }
+
+    /// Goes on after an advance.
+    fn go_on(&mut self, after: Bytes, used: usize) {
+        self.saved = after.saved;
+        self.buffer = after.buffer;
+        self.answers.drain(..4 * used);
+    }
+}

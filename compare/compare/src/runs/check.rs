@@ -1,0 +1,223 @@
+//! One input run by both, uncut and cut.
+
+use std::fmt::Debug;
+
+use oracle::{Access, Asked};
+
+use super::cut;
+use super::room::{Log, Room, BLANK};
+use super::truth::{Truth, Uncut};
+use crate::calls::case::Case;
+use crate::random::Random;
+use crate::rattle::{self, saved, Advanced, Description, Next, ENTRY, SAVED, WAITING};
+
+/// A call with all that is lent for it.
+#[derive(Clone, Copy)]
+pub struct Input<'a> {
+    pub asked: &'a Asked,
+    pub buffer: &'a [u8],
+    pub answers: &'a [u32],
+}
+
+impl<'a> From<&'a Case> for Input<'a> {
+    fn from(case: &'a Case) -> Self {
+        Input {
+            asked: &case.asked,
+            buffer: &case.buffer,
+            answers: &case.answers,
+        }
+    }
+}
+
+impl Input<'_> {
+    pub fn description(&self) -> Description {
+        self.asked.into()
+    }
+
+    pub fn operations(&self) -> &[u8] {
+        rattle::bytes(&self.asked.operations)
+    }
+
+    pub fn case(&self) -> Case {
+        Case {
+            asked: self.asked.clone(),
+            buffer: self.buffer.to_vec(),
+            answers: self.answers.to_vec(),
+        }
+    }
+}
+
+/// Where an uncut run stands that both agree on.
+#[derive(Clone, Copy)]
+pub struct Ended {
+    pub report: u32,
+    pub value: u32,
+    /// The register that a waiting run waits for.
+    pub awaited: u32,
+    pub panics: bool,
+    pub saved: [u8; SAVED],
+}
+
+/// What is lent to Rattle.
+#[derive(Default)]
+pub struct Lent {
+    pub saved: [u8; SAVED],
+    pub buffer: Room,
+    pub answers: Room,
+    pub log: Log,
+}
+
+#[derive(Default)]
+pub struct Checker {
+    truth: Truth,
+    lent: Lent,
+}
+
+impl Checker {
+    /// Runs an input uncut and, where there are numbers to cut it by, cut. What differs is told.
+    pub fn check(&mut self, input: Input, cuts: Option<&mut Random>) -> Result<Ended, String> {
+        let uncut = self.truth.run(input.asked, input.buffer, input.answers);
+        let ended = whole(&mut self.lent, input, &uncut)?;
+        if let Some(random) = cuts {
+            cut::check(&mut self.lent, input, &uncut, ended.awaited, random)?;
+        }
+        Ok(ended)
+    }
+
+    /// The log and the buffer of the run that was checked last.
+    pub fn last(&mut self) -> (&[Access], &[u8]) {
+        self.truth.last()
+    }
+}
+
+/// Begin and one advance, with a log that is long enough.
+fn whole(lent: &mut Lent, input: Input, uncut: &Uncut) -> Result<Ended, String> {
+    let shift = input.answers.len() % 8;
+    begin(lent, input, uncut, shift)?;
+    let places = uncut.log.len() + 2;
+    let given = rattle::advance(
+        input.description(),
+        input.operations(),
+        &mut lent.saved,
+        lent.buffer.lent(),
+        rattle::bytes(input.answers),
+        lent.log.lend(places * ENTRY + shift, shift),
+    );
+    let awaited = if uncut.report == WAITING {
+        given.awaited
+    } else {
+        0
+    };
+    let expected = Advanced {
+        report: uncut.report,
+        value: uncut.value,
+        awaited,
+        used: uncut.used,
+        written: uncut.log.len(),
+    };
+    same("the uncut advance", expected, given)?;
+    entries(&mut lent.log, uncut.log)?;
+    buffer(&lent.buffer, uncut.buffer)?;
+    state(lent, input, uncut, uncut.log.len())?;
+    next(lent, input, uncut, uncut.log.len(), awaited)?;
+    Ok(Ended {
+        report: uncut.report,
+        value: uncut.value,
+        awaited,
+        panics: uncut.panics,
+        saved: lent.saved,
+    })
+}
+
+/// Begins a call and lends its buffer anew.
+pub fn begin(lent: &mut Lent, input: Input, uncut: &Uncut, shift: usize) -> Result<(), String> {
+    lent.buffer.hold(input.buffer, shift);
+    lent.saved = [BLANK; SAVED];
+    let given = rattle::begin(
+        input.description(),
+        input.operations(),
+        lent.buffer.content(),
+        &mut lent.saved,
+    );
+    let refusal = if uncut.is_refused() { uncut.value } else { 0 };
+    same("begin", refusal, given)?;
+    buffer(&lent.buffer, input.buffer)?;
+    state(lent, input, uncut, 0)
+}
+
+/// The saved call after so many accesses, as far as it is known: all of a refused one.
+pub fn state(lent: &Lent, input: Input, uncut: &Uncut, made: usize) -> Result<(), String> {
+    if uncut.is_refused() {
+        return same("the refused saved call", [0; SAVED], lent.saved);
+    }
+    let call = rattle::word(&lent.saved, saved::CALL);
+    same("the saved call's number", input.asked.call, call)?;
+    let accesses = rattle::word(&lent.saved, saved::ACCESSES);
+    same("the saved call's accesses", made as u32, accesses)
+}
+
+/// The next access after so many.
+pub fn next(
+    lent: &Lent,
+    input: Input,
+    uncut: &Uncut,
+    made: usize,
+    awaited: u32,
+) -> Result<(), String> {
+    let given = rattle::next(
+        input.description(),
+        input.operations(),
+        &lent.saved,
+        lent.buffer.content(),
+    );
+    same("the next access", uncut.next(made, awaited), given)
+}
+
+/// The entries just written are these and nothing else was.
+pub fn entries(log: &mut Log, expected: &[Access]) -> Result<(), String> {
+    let length = expected.len() * ENTRY;
+    let given = log
+        .written(length)
+        .ok_or("a byte beside the log's entries was written")?;
+    if given != rattle::bytes(expected.as_flattened()) {
+        let place = given
+            .chunks(ENTRY)
+            .zip(expected)
+            .position(|(given, entry)| given != rattle::bytes(entry));
+        return Err(format!("entry {} of the log differs", place.unwrap_or(0)));
+    }
+    log.clear(length);
+    Ok(())
+}
+
+pub fn buffer(room: &Room, expected: &[u8]) -> Result<(), String> {
+    if room.content() != expected {
+        return Err("the buffer differs".to_string());
+    }
+    if !room.margins_are_blank() {
+        return Err("a byte beside the buffer was written".to_string());
+    }
+    Ok(())
+}
+
+pub fn same<T: PartialEq + Debug>(what: &str, expected: T, given: T) -> Result<(), String> {
+    if expected == given {
+        return Ok(());
+    }
+    Err(format!("{what}: expected {expected:?}, given {given:?}"))
+}
+
+impl Uncut<'_> {
+    /// What is next after so many accesses. The register that the run waits for at its end, if it
+    /// does, the Rust does not tell.
+    fn next(&self, made: usize, awaited: u32) -> Next {
+        let (kind, value) = match self.log.get(made) {
+            _ if self.is_refused() => (rattle::NONE_REFUSED, self.value),
+            Some(&[code, _]) if code >= 0x100 => (rattle::WRITE, code - 0x100),
+            Some(&[code, _]) => (rattle::READ, code),
+            None if self.has_ended() => (rattle::OVER, 0),
+            None => (rattle::READ, awaited),
+        };
+        Next { kind, value }
+    }
+}
