@@ -23,7 +23,6 @@ const USAGE: &str = "usage: compare timing [--pairs N] [--seed S]
        compare runs [--runs N | --seconds S] [--seed X]
        compare speed
        compare damaged [--calls N | --seconds S] [--seed X] [--heap]
-       compare calls --program FILE [--runs N] [--seed S]
        compare bench --program FILE [--files N] [--seed S]
        compare bench-text --file FILE
        compare store-timing --inputs FILE --answers FILE [--check]
@@ -82,13 +81,6 @@ fn command(mut arguments: Arguments) -> Result<bool, String> {
                 _ => damaged::Limit::Seconds(seconds),
             };
             Ok(damaged::compare(limit, seed, heap))
-        }
-        "calls" => {
-            let program = arguments.needed("--program")?;
-            let runs = arguments.number("--runs", 5_000)?;
-            let seed = arguments.number("--seed", 1)?;
-            arguments.none_left()?;
-            calls::compare(runs, seed, &program).map_err(|error| error.to_string())
         }
         "bench" => {
             let program = arguments.needed("--program")?;

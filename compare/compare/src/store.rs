@@ -1,5 +1,4 @@
-//! `compare store-timing` and `compare store-calls`: fixed samples, each as a file of inputs and one
-//! of the driver's answers.
+//! `compare store-timing`: a fixed sample, as a file of inputs and one of the driver's answers.
 
 use std::{fmt::Write, fs, io};
 

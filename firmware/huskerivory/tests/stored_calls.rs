@@ -1,4 +1,4 @@
-//! The stored calls of `crates/replay`, whose text was written by the Rust driver: every call,
+//! Stored calls, whose text was written by the Rust driver (`compare store-calls`): every call,
 //! outcome and refusal. Each is polled to its end, or until no answer is left; and again with the
 //! call stored as bytes and taken up anew at every poll.
 
@@ -9,8 +9,8 @@ use huskerivory::{Description, Operation, Running, SavedCall};
 use std::fmt::Write;
 use std::task::Poll;
 
-const CALLS: &str = include_str!("../../../crates/replay/stdin");
-const TEXT: &str = include_str!("../../../crates/replay/stdout");
+const CALLS: &str = include_str!("stored/calls.txt");
+const TEXT: &str = include_str!("stored/text.txt");
 
 struct Stored {
     /// In the order of `Description::from_words`.
@@ -130,16 +130,15 @@ fn stored_calls() -> Vec<Stored> {
     calls
 }
 
-/// The text of each call, without what `replay` says of its cuts.
+/// The text of each call, which ends with the line of its buffer.
 fn stored_texts() -> Vec<String> {
     let mut texts = Vec::new();
     let mut lines = Vec::new();
     for line in TEXT.lines() {
-        if line.starts_with("answers ") {
+        lines.push(line);
+        if line.starts_with('b') {
             texts.push(lines.join("\n"));
             lines.clear();
-        } else if !line.starts_with("places ") {
-            lines.push(line);
         }
     }
     assert_eq!(lines, [format!("calls {}", texts.len())]);

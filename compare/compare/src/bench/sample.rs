@@ -54,7 +54,7 @@ fn cut(name: &str, cases: Vec<Case>) -> Vec<File> {
         .collect()
 }
 
-/// Calls of the sample for `replay`, but that where the driver panics.
+/// Calls of the fixed sample, but that where the driver panics.
 fn described(calls: Vec<calls::Described>) -> Vec<Case> {
     let cases = calls.iter().map(|(_, case)| meaning::as_read(case));
     cases.filter(|case| !Run::of(case).panics).collect()

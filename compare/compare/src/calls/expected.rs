@@ -1,6 +1,4 @@
-//! What the program `replay` has to print of a call.
-
-use std::fmt::Write;
+//! The stored text of a call: its line, its accesses and its buffer.
 
 use super::case::Case;
 use super::run::Run;
@@ -13,12 +11,6 @@ pub fn text(run: &Run) -> String {
     let mut text = String::new();
     run.write_accesses(&mut text);
     run.write_buffer(&mut text);
-    // Cut by answers, an advance begins at a write only if it is the call's first access. In
-    // both ways one advance more finds that nothing is left to do.
-    let first = run.log.first().is_some_and(|access| access[0] >= 0x100);
-    let by_answers = run.used + usize::from(first) + 1;
-    let by_places = run.log.len() + 1;
-    writeln!(text, "answers same {by_answers}\nplaces same {by_places}").unwrap();
     text
 }
 
@@ -53,15 +45,11 @@ mod tests {
             buffer: vec![0x12, 0x34],
             answers: vec![1, 0x0202_00A0, 3, 3, 0x21],
         };
-        let expected = format!("{DOCUMENT_01}answers same 7\nplaces same 10\n");
-        assert_eq!(of(&case), expected);
+        assert_eq!(of(&case), DOCUMENT_01);
     }
 
     #[test]
     fn a_refused_call() {
-        assert_eq!(
-            of(&Case::default()),
-            "0 refused 12 0 0\nb\nanswers same 1\nplaces same 1\n"
-        );
+        assert_eq!(of(&Case::default()), "0 refused 12 0 0\nb\n");
     }
 }

@@ -248,21 +248,3 @@ fn spoil_transaction(asked: &mut Asked, length: usize, random: &mut Random) -> u
     }
     length
 }
-
-#[cfg(test)]
-mod tests {
-    use super::*;
-
-    /// The program says so where a text has too much, but no call of ours should.
-    #[test]
-    fn calls_fit_the_program() {
-        let mut random = Random::new(1);
-        for _ in 0..2_000 {
-            let case = case(&mut random);
-            assert!(case.asked.operations.len() <= 80);
-            assert!(case.buffer.len() <= 65_536);
-            assert!(case.answers.len() <= 8_192);
-            assert!(case.text("").len() <= super::super::TEXT);
-        }
-    }
-}

@@ -1,5 +1,5 @@
-//! What a call comes to: the driver's run, or document 01's refusal; and its text, as far as all
-//! programs print it alike.
+//! What a call comes to: the driver's run, or document 01's refusal; and its text, as document 01's
+//! bench has it.
 
 use std::fmt::Write;
 

@@ -7,7 +7,7 @@ use super::chip::*;
 use super::expected;
 
 const HOW: &str =
-    "# Described calls, as crates/replay/src/text.rt has them; made in compare/ by:\n\
+    "# Described calls, as firmware/huskerivory/tests/stored_calls.rs reads them; made in compare/ by:\n\
                    # cargo run --release --offline -- store-calls --inputs FILE --answers FILE\n";
 
 /// The text of the calls and that of the expected answers.
@@ -494,13 +494,5 @@ mod tests {
             let unread = line.ends_with(" 0 0");
             assert!(unread || line.contains(&used), "{comment}: {line}");
         }
-    }
-
-    #[test]
-    fn the_texts_fit_the_program() {
-        let (inputs, answers) = texts();
-        assert!(inputs.len() < super::super::TEXT);
-        assert!(inputs.lines().all(|line| line.len() <= 120));
-        assert!(answers.ends_with(&format!("calls {}\n", calls().len())));
     }
 }
