@@ -66,7 +66,7 @@ fn enable() -> Access
     )
 }
 
-fn place(v: View, s: SavedCall) -> usize
+pub fn place(v: View, s: SavedCall) -> usize
     ensures { λ r. ⌜ r ≡ v .start + s .byte ⌝ }
 {
     v.start as usize + s.byte as usize
@@ -79,7 +79,7 @@ fn byte_at(b: &[u8], i: usize) -> u32
     if i < b.len() { b[i] as u32 } else { 0 }
 }
 
-fn byte_out(v: View, b: &[u8], s: SavedCall) -> u32
+pub fn byte_out(v: View, b: &[u8], s: SavedCall) -> u32
     ensures { λ r. ⌜ r ≡ byteOut v (now (b .entry)) s ⌝ }
 {
     if s.byte < v.size {

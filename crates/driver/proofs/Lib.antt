@@ -1,4 +1,5 @@
 pub mod Pieces
 pub mod Accepts
 pub mod Loop
+pub mod Shortcuts
 pub mod Demand

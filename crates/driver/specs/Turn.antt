@@ -1,13 +1,14 @@
 -- One turn of the loop of advance, over the whole lists of answers and of the log's words. Assumes nothing.
 use Prim.Native.Nat.{ℕ, _+_}
 use mathlib.Core.Bool.{Bool, true, false, cond}
+use mathlib.Core.Path.{_≡_}
 use mathlib.Core.List.{List}
 use lib.Dec.{ltb}
 use lib.ListN.{length, getD, set}
 use Rattle.registers.specs.Map.{offsetOf}
 use Rattle.registers.specs.declared.Register.the-variants.{Rxdr}
 use Rattle.calls.specs.Run.{Entry, readEntry, writeEntry, byteOf}
-use Rattle.calls.specs.Steps.{accessAt, afterIn}
+use Rattle.calls.specs.Steps.{accessAt, savedAt, more, afterIn}
 use Rattle.calls.specs.declared.Access.{Access}
 use Rattle.calls.specs.declared.Access.the-variants.{Read, Take, Write, Nothing}
 use Rattle.calls.specs.declared.Advanced.{Advanced}
@@ -17,6 +18,8 @@ use Rattle.calls.specs.declared.Report.{Report}
 use Rattle.calls.specs.declared.Report.the-variants.{Over, Full, Waiting}
 use Rattle.calls.specs.declared.SavedCall.{SavedCall}
 use Rattle.calls.specs.declared.View.{View}
+use Rattle.calls.specs.declared.Step.{Step}
+use Rattle.driver.specs.declared.quick.Quick.{Quick}
 use Rattle.driver.specs.declared.run.Found.{Found}
 use Rattle.driver.specs.declared.run.Turned.{Turned}
 
@@ -83,3 +86,23 @@ turnBy c d v s m =
 
 abbrev pub turnOf : Call → Description → View → SavedCall → List ℕ → List ℕ → ℕ → List ℕ → ℕ → Turn
 turnOf c d v s b l u log at = turnBy c d v s (madeOf c d v s b l u log at)
+
+-- A quick turn: made, or passed on.
+abbrev pub quickly : ℕ → ℕ → Step → Quick
+quickly u j t = record { made = true; used = u; byte = j; step = t }
+
+abbrev pub passed : SavedCall → ℕ → Quick
+passed s u = record { made = false; used = u; byte = s .byte; step = s .step }
+
+abbrev pub movedBy : SavedCall → Quick → SavedCall
+movedBy s k = savedAt s (k .step) (s .piece) (k .byte) (s .word) (s .outcome) (more (s .accesses))
+
+abbrev pub quickTurned : SavedCall → Quick → Turned
+quickTurned s k = record { going = k .made; report = Full; used = k .used; saved = movedBy s k }
+
+-- Where one was made, it is the turn of whatever call. Else nothing was touched.
+abbrev pub Quickly : View → SavedCall → List ℕ → List ℕ → ℕ → List ℕ → ℕ → Quick → List ℕ → List ℕ → Type 0
+Quickly v s b l u log at k b′ log′ =
+    (c : Call) (d : Description) →
+    asTurn (quickTurned s k) b′ log′ ≡
+    cond (k .made) (turnOf c d v s b l u log at) (asTurn (quickTurned s (passed s u)) b log)

@@ -22,6 +22,7 @@ use calls::Step;
 use calls::Verdict;
 
 mod accept;
+mod quick;
 mod run;
 mod view;
 

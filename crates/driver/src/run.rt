@@ -11,6 +11,7 @@ ghost use Rattle.registers.specs.Map.{offsetOf};
 ghost use Rattle.calls.proofs.Fit.{Fit};
 ghost use Rattle.steps.specs.Bounds.{Small};
 ghost use Rattle.driver.specs.Turn.{stayed, went, asMade, madeOf, asTurn, turnOf};
+use crate::quick;
 use crate::view;
 use calls::Access;
 use calls::Advanced;
@@ -37,7 +38,7 @@ pub struct Turned {
     pub saved: SavedCall,
 }
 
-fn note(log: &mut [u32], at: usize, code: u32, value: u32)
+pub fn note(log: &mut [u32], at: usize, code: u32, value: u32)
     requires { ⌜ at + 2 ≤ length (now log) ⌝ }
     ensures { λ _. ⌜ now (log .exit) ≡ set (set (now (log .entry)) at code) (at + 1) value ⌝ }
 {
@@ -45,7 +46,7 @@ fn note(log: &mut [u32], at: usize, code: u32, value: u32)
     log[at + 1] = value;
 }
 
-fn keep(buffer: &mut [u8], at: usize, answer: u32)
+pub fn keep(buffer: &mut [u8], at: usize, answer: u32)
     ensures { λ _. ⌜ now (buffer .exit) ≡ set (now (buffer .entry)) at (answer % 256) ⌝ }
 {
     if at < buffer.len() {
@@ -54,7 +55,7 @@ fn keep(buffer: &mut [u8], at: usize, answer: u32)
 }
 
 // The first word of a write's entry.
-fn write_code(r: Register) -> u32
+pub fn write_code(r: Register) -> u32
     ensures { λ n. ⌜ n ≡ offsetOf r + 0x100 ⌝ }
 {
     r.offset() + 0x100
@@ -184,18 +185,26 @@ pub fn run(
     let mut v = first;
     let mut used: usize = 0;
     let mut written: usize = 0;
-    let mut at: usize = 0;
-    let mut left: usize = log.len() / 2;
-    while 0 < left {
-        let t = turn(c, d, v, s, buffer, answers, used, log, at);
+    let places = log.len() / 2;
+    while written < places {
+        // Quick turns have a loop of their own, which keeps little at hand. The last place is left to the general turn.
+        let mut quick = true;
+        while quick & (written + 1 < places) {
+            let k = quick::turn(v, s, buffer, answers, used, log, 2 * written);
+            quick = k.made;
+            if quick {
+                s = quick::moved(s, k);
+                used = k.used;
+                written += 1;
+            }
+        }
+        let t = turn(c, d, v, s, buffer, answers, used, log, 2 * written);
         if t.going {
             let next = t.saved;
             v = view::view_after(c, ops, n, v, s.piece, next.piece);
             s = next;
             used = t.used;
-            at += 2;
             written += 1;
-            left -= 1;
         } else {
             let end = t.saved;
             let report = t.report;

@@ -67,6 +67,11 @@ upper w b m a n h =
     ∙ sym (shr-shr w (a + n) (b - (a + n)))
     ∙ ap (λ (x : ℕ). x / 2 ^ (b - (a + n))) (sym (shr-shr w a n)))
 
+-- a field of a field is one of the word
+pub bits-within : (w a n b m : ℕ) → b + m ≤ n → bitsAt (bitsAt w a n) b m ≡ bitsAt w (a + b) m
+unfolding bitsAt
+bits-within w a n b m h = lower (w / 2 ^ a) b m n h ∙ ap (λ (x : ℕ). x % 2 ^ m) (shr-shr w a b)
+
 -- so a write leaves a field that ends at or before its own start, and one that starts at or after its end
 pub bits-before : (w a n v b m : ℕ) → b + m ≤ a → bitsAt (withBits w a n v) b m ≡ bitsAt w b m
 bits-before w a n v b m h =

@@ -5,8 +5,8 @@ use Prim.Native.Nat.{ℕ, _+_, _-_, _*_, _%_, _^_, _≤_, _<_}
 use native.Mathlib.Omega.{arith}
 use lib.Dec.{T, leb, ltb, leb→le, ltb→lt}
 use lib.Pow.{pow-pos}
-use Rattle.fields.specs.Field.{Place, inside, bitsAt, withBits, getOf, putOf, apart}
-use Rattle.fields.proofs.Arithmetic.{bits-lt, bits-with, with-low, with-with, with-bits, with-on, bits-before, bits-after, with-lt}
+use Rattle.fields.specs.Field.{Place, place, inside, bitsAt, withBits, getOf, putOf, apart}
+use Rattle.fields.proofs.Arithmetic.{bits-lt, bits-with, bits-within, with-low, with-with, with-bits, with-on, bits-before, bits-after, with-lt}
 
 -- by whether a place lies within the word
 by : (P : Bool → Type 0) (b : Bool) → (T b → P true) → P false → P b
@@ -62,6 +62,14 @@ get-apart w p q v t =
         (λ h. bits-after w (p .at) (p .width) v (q .at) (q .width) (leb→le _ _ h))
         (λ h. bits-before w (p .at) (p .width) v (q .at) (q .width) (leb→le _ _ h))
         t
+
+-- a field of a field is one of the word
+pub get-within : (w : ℕ) (p q : Place) → T (inside p) → T (inside q) → T (inside (place (p .at + q .at) (q .width))) →
+    q .at + q .width ≤ p .width → getOf (getOf w p) q ≡ getOf w (place (p .at + q .at) (q .width))
+unfolding getOf
+get-within w p q t u v h =
+    rw (is-true (inside p) t, is-true (inside q) u, is-true (inside (place (p .at + q .at) (q .width))) v)
+    (bits-within w (p .at) (p .width) (q .at) (q .width) h)
 
 -- put twice is the last put
 pub put-put : (w : ℕ) (p : Place) (u v : ℕ) → putOf (putOf w p u) p v ≡ putOf w p v

@@ -10,7 +10,7 @@ ghost use Rattle.calls.specs.Calls.{call, transaction, transmits};
 ghost use Rattle.calls.specs.Outcomes.{isDone, readdressed};
 ghost use Rattle.calls.specs.Pieces.{there};
 ghost use Rattle.calls.specs.Steps.{errorOr, nackOr, failing, failOf, countOf, transferOver, notAcknowledged, entryStep, transferOf, eventOf, stopEvent, addressFound, tenBitHeader, findAddress, clearStep, addressEvent, eventIn, awaited, stopOr, goesIf, nextIf, waitAt, byteMoved, ownThen, writtenAt, thenAt, more, applyOf, is, counted, found, noted, afterIn, startAt, beginAt};
-ghost use Rattle.calls.specs.declared.Step.the-variants.{Ended, StartControl, Byte, Address};
+ghost use Rattle.calls.specs.declared.Step.the-variants.{Ended, StartControl, Wait, Byte, Address};
 ghost use Rattle.calls.specs.declared.Then.the-variants.{Goes};
 ghost use Rattle.steps.specs.Bounds.{Small, small};
 use access::call;
@@ -497,7 +497,7 @@ fn then(c: Call, d: Description, v: View, s: SavedCall, a: u32, t: Step) -> Then
 }
 
 // The counter of accesses stays at its end.
-fn one_more(n: u32) -> u32
+pub fn one_more(n: u32) -> u32
     ensures { λ r. ⌜ r ≡ more n ⌝ }
 {
     if n == 0xFFFF_FFFF {
@@ -563,6 +563,12 @@ pub fn is_ended(t: Step) -> bool
     ensures { λ r. ⌜ r ≡ is t Ended ⌝ }
 {
     if let Step::Ended = t { true } else { false }
+}
+
+pub fn is_wait(t: Step) -> bool
+    ensures { λ r. ⌜ r ≡ is t Wait ⌝ }
+{
+    if let Step::Wait = t { true } else { false }
 }
 
 pub fn is_byte(t: Step) -> bool

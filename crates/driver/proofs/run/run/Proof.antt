@@ -1,96 +1,117 @@
--- `run` meets its contract. The loop's invariant: what is still to come, put after what was done, is the whole advance; the
--- view is that of the running piece, and what row 13 asks holds. Assumes nothing.
-use Prim.Native.Nat.{_+_, _*_, _/_, _≤_}
+-- `run` meets its contract. Both loops go by the same: what is still to come, put after what was done, is the whole advance;
+-- the view is that of the running piece, and what row 13 asks holds. Assumes nothing.
+use Prim.Native.Nat.{_+_, _-_, _<_, _≤_}
 use native.Mathlib.Omega.{arith}
 use mathlib.Core.Path.{_≡_, refl, sym, _∙_}
-use lib.ListN.{length, drop}
+use mathlib.Core.Bool.{true, cond}
 use borrow.Author.Needs.{needs}
-use Rattle.calls.proofs.Accepted.{Known}
+use borrow.Author.Tests.{ltb-true}
 use Rattle.calls.specs.Calls.{Request}
-use Rattle.calls.specs.Pieces.{viewOf}
 use Rattle.calls.specs.Refusals.{requestOf}
-use Rattle.calls.specs.Run.{advanceFrom}
 use Rattle.driver.proofs.Accepts.{known-small}
-use Rattle.driver.proofs.Loop.{finish, whole, again, ends, kept, full}
+use Rattle.driver.proofs.Loop.{toCome, Going, tested, after, whole, ends, kept, goes-on, goes-quick, stays-quick, full}
 use Rattle.driver.proofs.run.run.Statement.{statement}
 use Rattle.driver.proofs.run.run.Tie as tie
 
-abbrev Inv-loop : tie.InvT-loop
-Inv-loop c d ops n buffer₀ answers log₀ s₀ v₀ used₀ written₀ at₀ left₀ buffer log s v used written at left =
+abbrev Inv-loop2 : tie.InvT-loop2
+Inv-loop2 c d ops n buffer₀ answers log₀ s₀ v used₀ written₀ places quick₀ buffer log s used written quick =
     let q : Request = requestOf c d ops n in
-    (at + 2 * left ≤ length log) ×
-    (written ≤ at) ×
-    (length log ≡ length log₀) ×
-    (length buffer ≡ length buffer₀) ×
-    (v ≡ viewOf q s) ×
-    Known q s ×
-    (finish log at used written (advanceFrom q left s buffer (drop used answers))
-    ≡ finish log₀ 0 0 0 (advanceFrom q (length log₀ / 2) s₀ buffer₀ answers))
+    Going q answers places (toCome q answers places buffer₀ log₀ s₀ used₀ written₀) buffer₀ log₀ buffer log s v used written ×
+    (written < places) × (written₀ ≤ written)
+
+abbrev μ-loop2 : tie.MeasureT-loop2
+μ-loop2 c d ops n buffer₀ answers log₀ s₀ v used₀ written₀ places quick₀ buffer log s used written quick =
+    places - written + cond quick 1 0
+
+abbrev Inv-loop : tie.InvT-loop
+Inv-loop c d ops n buffer₀ answers log₀ s₀ v₀ used₀ written₀ places buffer log s v used written =
+    let q : Request = requestOf c d ops n in
+    Going q answers places (toCome q answers places buffer₀ log₀ s₀ 0 0) buffer₀ log₀ buffer log s v used written ×
+    (written ≤ places)
 
 abbrev μ-loop : tie.MeasureT-loop
-μ-loop c d ops n buffer₀ answers log₀ s₀ v₀ used₀ written₀ at₀ left₀ buffer log s v used written at left = left
+μ-loop c d ops n buffer₀ answers log₀ s₀ v₀ used₀ written₀ places buffer log s v used written = places - written
 
 pub run-spec : {M : Type 1} → statement M
 run-spec =
     tie.close
     (tie.spec
+    Inv-loop2
+    μ-loop2
     Inv-loop
     μ-loop
-    (λ c. (omega arith, omega arith, refl, refl, c .before .before .before .before .pre .1, c .before .before .before .before .pre .2, refl))
+    (λ c.
+    let p = c .before .before .before .before .pre in
+    (record { places = omega arith; buffer-kept = refl; log-kept = refl; view = p .1; known = p .2; rest = refl }, omega arith))
+    (λ c.
+    let g = c .before .loop .inv .0 in
+    (record { places = g .places; buffer-kept = refl; log-kept = refl; view = g .view; known = g .known; rest = refl }, c .loop-test .taken, omega arith))
+    (λ c. omega (arith, c .loop2 .inv .0 .places, c .loop2 .inv .0 .log-kept, c .before .before .loop .inv .0 .log-kept, c .loop2 .inv .1, c .before .before .before .before .before .before .before .good .1 .1 .1 .1 .1 .1 .1 .1 .0 .0))
+    (λ c. let g = c .before .before .before .loop2 .inv in omega (arith, g .0 .places, g .0 .log-kept, c .before .before .before .before .before .loop .inv .0 .log-kept, g .1, c .before .before .before .before .before .before .before .before .before .before .good .1 .1 .1 .1 .1 .1 .1 .1 .0 .0))
     (λ c κs.
-    let a = c .before .before .before .before .before .before .before .before .args in
-    let i = c .before .before .before .loop in
-    let small = known-small (a .c) (a .d) (a .ops .now) (a .n) (i .s) (c .before .before .before .before .before .before .before .before .pre .0) (i .inv .5) in
-    (omega (arith, i .inv), small .0, rw (i .inv .4) (small .1)))
-    (λ c κs.
-    let a = c .before .before .before .before .before .before .before .before .before .before .before .before .before .before .before .args in
-    let i = c .before .before .before .before .before .before .before .before .before .before .loop in
+    let a = c .before .before .before .before .before .before .before .before .before .before .args in
+    let j = c .before .before .before .loop2 in
+    (omega (arith, j .inv .0 .places, j .inv .1), known-small (a .c) (a .d) (a .ops .now) (a .n) (j .s) (c .before .before .before .before .before .before .before .before .before .before .pre .0) (j .inv .0 .known) .0))
+    (λ c κs. search needs)
+    (λ c. let g = c .before .before .before .before .before .before .before .before .before .before .loop2 .inv in omega (arith, g .0 .places, g .0 .log-kept, c .before .before .before .before .before .before .before .before .before .before .before .before .loop .inv .0 .log-kept, g .1, c .before .before .before .before .before .before .before .before .before .before .before .before .before .before .before .before .before .good .1 .1 .1 .1 .1 .1 .1 .1 .0 .0))
+    (λ c.
+    let j = c .before .before .before .before .before .before .before .before .before .before .loop2 in
+    let on : j .quick ≡ true = tested (j .quick) (c .before .before .before .before .before .before .before .before .before .loop2-test .taken) .0 in
+    rw (c .before .if1 .taken, on) (omega (arith, j .inv .1)))
+    (λ c.
+    let a = c .before .before .before .before .before .before .before .before .before .before .before .before .before .before .before .before .before .args in
+    let j = c .before .before .before .before .before .before .before .before .before .before .loop2 in
     let t = c .before .before .before .before .before .before .turn in
-    let q : Request = requestOf (a .c) (a .d) (a .ops .now) (a .n) in
-    let next = kept q (a .answers .now) (i .s) (i .v) (i .inv .4) (i .buffer) (i .used) (i .log) (i .at) (i .written) (t .result) _ _ (t .ensures) (c .before .if1 .taken) (i .inv .5) in
-    (c .before .before .before .before .before .before .before .before .before .before .before .before .before .before .before .pre .0, (known-small (a .c) (a .d) (a .ops .now) (a .n) (i .s) (c .before .before .before .before .before .before .before .before .before .before .before .before .before .before .before .pre .0) (i .inv .5) .0 .piece, (known-small (a .c) (a .d) (a .ops .now) (a .n) (t .result .saved) (c .before .before .before .before .before .before .before .before .before .before .before .before .before .before .before .pre .0) next .0 .piece, i .inv .4))))
-    (λ c. omega (arith, c .before .before .before .before .before .before .before .before .before .before .before .loop .inv, c .before .before .before .before .before .before .before .before .before .before .before .before .before .before .before .before .good .1 .1 .1 .1 .1 .1 .1 .1 .0 .0))
-    (λ c. omega (arith, c .before .before .before .before .before .before .before .before .before .before .before .loop .inv, c .before .before .before .before .before .before .before .before .before .before .before .before .before .before .before .before .good .1 .1 .1 .1 .1 .1 .1 .1 .0 .0))
-    (λ c. omega arith)
-    (λ c. omega arith)
+    (rw (c .moved .ensures) (goes-quick (requestOf (a .c) (a .d) (a .ops .now) (a .n)) _ _ _ _ _ _ _ _ _ _ _ (j .inv .0) (t .result) _ _ (t .ensures) (j .inv .1) (c .before .if1 .taken) (t .kept .1 .1 .0) (t .kept .1 .1 .1 .1 .1 .0)), ltb-true _ _ (tested (j .quick) (c .before .before .before .before .before .before .before .before .before .loop2-test .taken) .1), omega (arith, j .inv .2)))
+    (λ c.
+    let j = c .before .before .before .before .before .before .before .before .before .loop2 in
+    let on : j .quick ≡ true = tested (j .quick) (c .before .before .before .before .before .before .before .before .loop2-test .taken) .0 in
+    rw (c .if1 .left, on) (omega arith))
     (λ c.
     let a = c .before .before .before .before .before .before .before .before .before .before .before .before .before .before .before .before .args in
-    let i = c .before .before .before .before .before .before .before .before .before .before .before .loop in
-    let t = c .before .before .before .before .before .before .before .turn in
-    let q : Request = requestOf (a .c) (a .d) (a .ops .now) (a .n) in
-    let more = again q (a .answers .now) (i .s) (i .v) (i .inv .4) (i .buffer) (i .used) (i .log) (i .at) (i .written) (t .result) _ _ (t .ensures) (i .left) (c .before .before .before .before .before .before .before .before .before .before .loop-test .taken) (c .before .before .if1 .taken) in
-    let next = kept q (a .answers .now) (i .s) (i .v) (i .inv .4) (i .buffer) (i .used) (i .log) (i .at) (i .written) (t .result) _ _ (t .ensures) (c .before .before .if1 .taken) (i .inv .5) in (
-      omega (arith, t .kept, i .inv, c .before .before .before .before .before .before .before .before .before .before .loop-test .taken),
-      omega (arith, i .inv),
-      t .kept .1 .1 .1 .1 .1 .1 .1 .0 ∙ i .inv .2,
-      t .kept .1 .1 .1 .1 .0 ∙ i .inv .3,
-      c .view-after .ensures,
-      next,
-      sym more ∙ i .inv .6,
-    ))
+    let j = c .before .before .before .before .before .before .before .before .before .loop2 in
+    let t = c .before .before .before .before .before .turn in
+    (stays-quick (requestOf (a .c) (a .d) (a .ops .now) (a .n)) _ _ _ _ _ _ _ _ _ _ _ (j .inv .0) (t .result) _ _ (t .ensures) (c .if1 .left), j .inv .1, j .inv .2))
+    (λ c. let g = c .before .before .before .loop2 .inv in omega (arith, g .0 .places, g .0 .log-kept, c .before .before .before .before .before .loop .inv .0 .log-kept, g .1, c .before .before .before .before .before .before .before .before .before .before .good .1 .1 .1 .1 .1 .1 .1 .1 .0 .0))
+    (λ c κs.
+    let a = c .before .before .before .before .before .before .before .before .before .before .args in
+    let j = c .before .before .before .loop2 in
+    let small = known-small (a .c) (a .d) (a .ops .now) (a .n) (j .s) (c .before .before .before .before .before .before .before .before .before .before .pre .0) (j .inv .0 .known) in
+    (omega (arith, j .inv .0 .places, j .inv .1), small .0, rw (j .inv .0 .view) (small .1)))
+    (λ c κs.
+    let a = c .before .before .before .before .before .before .before .before .before .before .before .before .before .before .before .before .before .args in
+    let fit = c .before .before .before .before .before .before .before .before .before .before .before .before .before .before .before .before .before .pre .0 in
+    let j = c .before .before .before .before .before .before .before .before .before .before .loop2 in
+    let t = c .before .before .before .before .before .before .turn2 in
+    let next = kept (requestOf (a .c) (a .d) (a .ops .now) (a .n)) _ _ _ _ _ _ _ _ _ _ _ (j .inv .0) (t .result) _ _ (t .ensures) (c .before .if2 .taken) in
+    (fit, (known-small (a .c) (a .d) (a .ops .now) (a .n) (j .s) fit (j .inv .0 .known) .0 .piece, (known-small (a .c) (a .d) (a .ops .now) (a .n) (t .result .saved) fit next .0 .piece, j .inv .0 .view))))
+    (λ c. let g = c .before .before .before .before .before .before .before .before .before .before .before .loop2 .inv in omega (arith, g .0 .places, g .0 .log-kept, c .before .before .before .before .before .before .before .before .before .before .before .before .before .loop .inv .0 .log-kept, g .1, c .before .before .before .before .before .before .before .before .before .before .before .before .before .before .before .before .before .before .good .1 .1 .1 .1 .1 .1 .1 .1 .0 .0))
+    (λ c. omega (arith, c .before .before .before .before .before .before .before .before .before .before .before .loop2 .inv .1, c .before .before .before .before .before .before .before .before .before .before .before .loop2 .inv .2))
+    (λ c.
+    let a = c .before .before .before .before .before .before .before .before .before .before .before .before .before .before .before .before .before .before .args in
+    let j = c .before .before .before .before .before .before .before .before .before .before .before .loop2 in
+    let t = c .before .before .before .before .before .before .before .turn2 in
+    let g = goes-on (requestOf (a .c) (a .d) (a .ops .now) (a .n)) _ _ _ _ _ _ _ _ _ _ _ (j .inv .0) (t .result) _ _ (t .ensures) (j .inv .1) (c .before .before .if2 .taken) (t .kept .1 .1 .1 .1 .0) (t .kept .1 .1 .1 .1 .1 .1 .1 .0) _ (c .view-after .ensures) in
+    (after g (c .before .before .before .before .before .before .before .before .before .before .before .before .before .loop .inv .0), omega (arith, j .inv .1)))
     (λ c. search needs)
     (λ c. search needs)
     (λ c.
-    let a = c .before .before .before .before .before .before .before .before .before .before .before .before .before .before .before .args in
-    let i = c .before .before .before .before .before .before .before .before .before .before .loop in
-    let t = c .before .before .before .before .before .before .turn in
-    let q : Request = requestOf (a .c) (a .d) (a .ops .now) (a .n) in
-    let none = ends q (a .answers .now) (i .s) (i .v) (i .inv .4) (i .buffer) (i .used) (i .log) (i .at) (i .written) (t .result) _ _ (t .ensures) (i .left) (c .before .before .before .before .before .before .before .before .before .loop-test .taken) (c .before .if1 .left) in
-    sym none ∙ i .inv .6 ∙ whole q (a .saved) (a .buffer .now) (a .answers .now) (a .log .now))
+    let a = c .before .before .before .before .before .before .before .before .before .before .before .before .before .before .before .before .before .args in
+    let i = c .before .before .before .before .before .before .before .before .before .before .before .before .loop in
+    let j = c .before .before .before .before .before .before .before .before .before .before .loop2 in
+    let t = c .before .before .before .before .before .before .turn2 in
+    ends (requestOf (a .c) (a .d) (a .ops .now) (a .n)) _ _ _ _ _ _ _ _ _ _ _ (j .inv .0) (t .result) _ _ (t .ensures) (j .inv .1) (c .before .if2 .left) ∙ i .inv .0 .rest
+    ∙ whole (requestOf (a .c) (a .d) (a .ops .now) (a .n)) (a .saved) (a .buffer .now) (a .answers .now) (a .log .now))
     (λ c κs. search needs)
     (λ c. search needs)
     (λ c. search needs)
     (λ c.
     let a = c .before .before .before .before .before .before .before .before .args in
-    let i = c .before .before .before .loop in
-    let q : Request = requestOf (a .c) (a .d) (a .ops .now) (a .n) in
-    let over = full q (a .answers .now) (i .s) (i .buffer) (i .used) (i .log) (i .at) (i .written) (i .left) _ (rw (sym (c .before .is-ended .ensures), c .if2 .taken)) (omega arith) in
-    sym over ∙ i .inv .6 ∙ whole q (a .saved) (a .buffer .now) (a .answers .now) (a .log .now))
+    full (requestOf (a .c) (a .d) (a .ops .now) (a .n)) _ _ _ _ _ _ _ _ _ _ _ (c .before .before .before .loop .inv .0) (omega arith) _ (rw (sym (c .before .is-ended .ensures), c .if3 .taken))
+    ∙ whole (requestOf (a .c) (a .d) (a .ops .now) (a .n)) (a .saved) (a .buffer .now) (a .answers .now) (a .log .now))
     (λ c. search needs)
     (λ c. search needs)
     (λ c.
     let a = c .before .before .before .before .before .before .before .before .args in
-    let i = c .before .before .before .loop in
-    let q : Request = requestOf (a .c) (a .d) (a .ops .now) (a .n) in
-    let no-place = full q (a .answers .now) (i .s) (i .buffer) (i .used) (i .log) (i .at) (i .written) (i .left) _ (rw (sym (c .before .is-ended .ensures), c .if2 .left)) (omega arith) in
-    sym no-place ∙ i .inv .6 ∙ whole q (a .saved) (a .buffer .now) (a .answers .now) (a .log .now)))
+    full (requestOf (a .c) (a .d) (a .ops .now) (a .n)) _ _ _ _ _ _ _ _ _ _ _ (c .before .before .before .loop .inv .0) (omega arith) _ (rw (sym (c .before .is-ended .ensures), c .if3 .left))
+    ∙ whole (requestOf (a .c) (a .d) (a .ops .now) (a .n)) (a .saved) (a .buffer .now) (a .answers .now) (a .log .now)))
