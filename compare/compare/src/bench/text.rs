@@ -42,19 +42,7 @@ fn shows_buffer(number: u32) -> bool {
 mod tests {
     use super::super::entry::bytes;
     use super::*;
-
-    /// The run that document 01 prints.
-    const DOCUMENT_01: &str = "7 done 0 5 9\n\
-                               w 04 020220A0\n\
-                               r 18 00000001\n\
-                               r 04 020200A0\n\
-                               r 18 00000003\n\
-                               w 28 00000012\n\
-                               r 18 00000003\n\
-                               w 28 00000034\n\
-                               r 18 00000021\n\
-                               w 1C 00000020\n\
-                               b 1234\n";
+    use crate::calls::expected::DOCUMENT_01;
 
     fn printed(words: &[u32]) -> String {
         of(&bytes(words)).text
