@@ -58,7 +58,7 @@ fn piece(
     let saved = t.saved;
     let place = t.place;
     let used = t.used;
-    let a = driver::advance(d, ops, saved, buffer, &answers[used..], &mut log);
+    let a = in_place::advance(d, ops, saved, buffer, &answers[used..], &mut log);
     let next = a.saved;
     let report = a.report;
     let words = 2 * a.written;
