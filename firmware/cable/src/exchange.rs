@@ -44,6 +44,8 @@ pub struct Exchange {
     pub ack: Ack,
     card: Vec<u8>,
     operations: Vec<Operation>,
+    /// Places that the scoreboard's buffer has beyond the card.
+    spare: usize,
 }
 
 impl fmt::Display for Exchange {
@@ -70,7 +72,14 @@ impl Exchange {
                 Direction::Send => vec![Operation::write(first), Operation::write(second)],
                 Direction::ReadBack => vec![Operation::read(first)],
             },
+            spare: 0,
         }
+    }
+
+    /// The same exchange with a larger buffer at the scoreboard, for a card that is sent.
+    pub fn with_spare(mut self, places: usize) -> Self {
+        self.spare = places;
+        self
     }
 
     /// The holes that are to cross the cable.
@@ -128,7 +137,7 @@ impl Exchange {
         target.enable_target_event(TargetListenEvent::PrimaryAddress)?;
         let target = target.free();
         let (terminal, scoreboard) = match self.direction {
-            Direction::Send => (self.card.clone(), vec![EMPTY; self.card.len()]),
+            Direction::Send => (self.card.clone(), vec![EMPTY; self.card.len() + self.spare]),
             Direction::ReadBack => (vec![EMPTY; self.holes().len()], self.card.clone()),
         };
         Ok((

@@ -4,7 +4,8 @@
 //! of nine: eight bits and the acknowledge. It knows nothing of the other peripheral. What happens
 //! on its own two lines is told to it: a START, a clock pulse with the level of SDA, a STOP.
 //!
-//! Each rule cites RM0492, chapter I2C, by the title of its section or by the field. Out of the
+//! Each rule cites RM0492, chapter I2C, by the title of its section or by the field. The titles say
+//! master and slave; a revision that says controller and target has the same sections. Out of the
 //! model: ten-bit and secondary addresses, general call, SMBus, DMA, NOSTRETCH, and a STOP that
 //! software asks for (CR2.STOP), none of which the exchanges of this package use.
 

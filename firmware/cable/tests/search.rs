@@ -110,3 +110,19 @@ fn a_read_hole_can_be_counted_one_short_with_the_cable_left_in() {
         }
     }
 }
+
+/// With AutoAck and a buffer of just the card a quick scoreboard can refuse the last hole that it has
+/// stored, the cable in or not. A place to spare keeps it from that.
+#[test]
+fn a_place_to_spare_keeps_the_last_acknowledge() {
+    let exchange = Exchange::new(Direction::Send, Ack::Auto, &CARD[..4]).with_spare(1);
+    let mut space = Space::new(exchange).unwrap();
+    let rows = explore(&mut space, &mut |_| {}).rows;
+    let left_in = |rows: &mut dyn Iterator<Item = &Kind>| {
+        let said = rows.filter(|kind| kind.cable == Cable::In);
+        said.map(|kind| kind.terminal).collect::<BTreeSet<_>>()
+    };
+    let both = BTreeSet::from([Said::Done, Said::Failed]);
+    assert_eq!(left_in(&mut sent(Ack::Auto).rows.keys()), both);
+    assert_eq!(left_in(&mut rows.keys()), BTreeSet::from([Said::Done]));
+}
