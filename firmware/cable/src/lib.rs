@@ -9,8 +9,9 @@
 //!
 //! One step is one register access of one end, or one START, clock pulse or STOP on the bus, or the
 //! cable pulled or put back. Any step that can be made may be the next one, so a flag may rise
-//! between any two accesses, and waiting has no bound. The one bound is that the cable is pulled
-//! once at most and put back once at most.
+//! between any two accesses, and waiting has no bound. The bounds are that the cable is pulled once
+//! at most and put back once at most, and what either can look like ([`bus::PULLS`],
+//! [`bus::PUT_BACKS`]).
 
 #![forbid(unsafe_code)]
 

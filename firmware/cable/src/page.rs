@@ -114,7 +114,8 @@ A terminal sends a card of {holes} holes to a scoreboard over a cable of two wir
 In another exchange it reads the first {half} holes back. Both chips are simulated clock pulse by
 clock pulse, and both are driven by the proved driver. The cable is pulled at every moment, and then
 left out, or put back at every later moment; and whatever can happen in two orders was tried in
-both. The one bound is that it is pulled once.
+both. The bounds are that it is pulled once, and that putting it back is seen at the scoreboard as
+nothing amiss or as a false start.
 
 The terminal is certain if it says done. After each hole its receiver acknowledges: it holds the
 data wire low for one clock pulse. At the scoreboard the chip does so by itself (AutoAck), or for
