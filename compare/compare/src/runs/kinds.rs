@@ -47,7 +47,7 @@ impl fmt::Display for Kind {
             Kind::Polled(call, wait) => {
                 write!(f, "call {call}: long polls for {}", wait.words())
             }
-            Kind::Refused(row) => write!(f, "refused, but the Rust: {}", row.words()),
+            Kind::Refused(row) => write!(f, "refused calls, of the Rust: {}", row.words()),
         }
     }
 }
@@ -93,7 +93,16 @@ impl Kinds {
 
     /// Whether every kind of run occurred.
     pub fn all_reached(&self) -> bool {
-        Kind::all().into_iter().all(|kind| self.occurred(kind) > 0)
+        self.missing().next().is_none()
+    }
+
+    pub fn print_missing(&self) {
+        self.missing().for_each(|kind| println!("runs: no {kind}"));
+    }
+
+    fn missing(&self) -> impl Iterator<Item = Kind> + '_ {
+        let kinds = Kind::all().into_iter();
+        kinds.filter(|&kind| self.occurred(kind) == 0)
     }
 }
 
