@@ -18,6 +18,7 @@ use Rattle.calls.specs.declared.SavedCall.{SavedCall}
 use Rattle.calls.specs.declared.Step.{Step}
 use Rattle.words.specs.Words.{Below, wordsIn, wordAt, bytesOf}
 use Rattle.words.proofs.Round.{words-back, whole-words}
+use Rattle.saved.specs.Range.{OfWords}
 use Rattle.saved.specs.Saved.{stepIn, stepAt, steps, outcomeIn, outcomes, outcomeAt, savedWords, savedBytes, isOutcome, isStep, isSaved, outcomeOf, stepOf, savedWith, savedIn}
 use Rattle.saved.specs.declared.outcome.FoundOutcome.{FoundOutcome}
 use Rattle.saved.specs.declared.outcome.FoundOutcome.the-variants.{AnOutcome, NoOutcome}
@@ -83,15 +84,6 @@ unfolding outcomeAt
 value-back n v = outcome-in (outcomes v) n v
 
 -- ---- saved calls
--- each word has 32 bits
-pub record OfWords (s : SavedCall) : Type 0 where
-  pub call : s .call < 4294967296
-  pub piece : s .piece < 4294967296
-  pub byte : s .byte < 4294967296
-  pub word : s .word < 4294967296
-  pub accesses : s .accesses < 4294967296
-  pub value : outcomeValue (s .outcome) < 4294967296
-
 number-below : (o : Outcome) → outcomeNumber o < 4294967296
 number-below (Done n) = lit< tt
 number-below Bus = lit< tt
