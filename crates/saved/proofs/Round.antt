@@ -1,5 +1,6 @@
 -- Reading and writing a saved call undo each other. Assumes nothing.
 use Prim.Native.Nat.{ℕ, _<_}
+use native.Mathlib.Omega.{arith}
 use mathlib.Core.Path.{_≡_, refl, sym, ap, _∙_}
 use mathlib.Core.Bool.{Bool, false, not, _&&_}
 use mathlib.Core.List.{List, [], _∷_}
@@ -100,7 +101,7 @@ step-below : (t : Step) → stepNumber t < 4294967296
 step-below t = ltb→lt (stepNumber t) 4294967296 (every-step (λ u. ltb (stepNumber u) 4294967296) tt t)
 
 words-below : (s : SavedCall) → OfWords s → Below 4294967296 (savedWords s)
-words-below s h = search (number-below (s .outcome), step-below (s .step))
+words-below s h = search (arith, number-below (s .outcome), step-below (s .step))
 
 -- reading what was written gives it back
 pub read-written : (s : SavedCall) → OfWords s → savedIn (savedBytes s) ≡ s
