@@ -7,7 +7,7 @@ use mathlib.Core.List.{List}
 use lib.Dec.{T, eqb, ltb, eqb→eq, nltb→le}
 use lib.ListN.{length}
 use Rattle.calls.specs.Calls.{call, transaction}
-use Rattle.calls.specs.Refusals.{noSuchListenKind, addressWide, total, anyOf, strangeBits, listWrong, operationLong, bufferWrong, verdictOf, requestOf, verdictBy, lookupOf, checkOf}
+use Rattle.calls.specs.Refusals.{noSuchCall, addressWide, total, anyOf, strangeBits, listWrong, operationLong, bufferWrong, verdictOf, requestOf, verdictBy, lookupOf, checkOf}
 use Rattle.calls.specs.declared.Call.{Call}
 use Rattle.calls.specs.declared.Description.{Description}
 use Rattle.calls.specs.declared.Lookup.{Lookup}
@@ -31,7 +31,7 @@ passed : (c₀ c : Call) (d : Description) (ops : List ℕ) (n : ℕ) → verdic
     → Passed c ops n
 unfolding verdictOf
 passed c₀ c d ops n =
-    by-test P (noSuchListenKind c₀ d) (λ _ e. refused e) (λ _.
+    by-test P (noSuchCall c₀ d) (λ _ e. refused e) (λ _.
     by-test P (addressWide c₀ d) (λ _ e. refused e) (λ _.
     by-test P (listWrong c₀ ops n) (λ _ e. refused e) (λ i.
     by-test P (operationLong c₀ ops) (λ _ e. refused e) (λ _.
