@@ -1,2 +1,4 @@
 pub mod Values
 pub mod Lent
+pub mod Contract
+pub mod Demand

@@ -16,8 +16,8 @@ use Rattle.calls.specs.declared.Outcome.{Outcome}
 use Rattle.calls.specs.declared.Outcome.the-variants.{Done, Bus, Arbitration, Nack, Stopped, ExpectedWrite, ExpectedRead, EventRead, EventWrite, EventStop}
 use Rattle.calls.specs.declared.SavedCall.{SavedCall}
 use Rattle.calls.specs.declared.Step.{Step}
-use Rattle.words.specs.Words.{wordsIn, wordAt, bytesOf}
-use Rattle.words.proofs.Round.{Below, words-back, whole-words}
+use Rattle.words.specs.Words.{Below, wordsIn, wordAt, bytesOf}
+use Rattle.words.proofs.Round.{words-back, whole-words}
 use Rattle.saved.specs.Saved.{stepIn, stepAt, steps, outcomeIn, outcomes, outcomeAt, savedWords, savedBytes, isOutcome, isStep, isSaved, outcomeOf, stepOf, savedWith, savedIn}
 use Rattle.saved.specs.declared.outcome.FoundOutcome.{FoundOutcome}
 use Rattle.saved.specs.declared.outcome.FoundOutcome.the-variants.{AnOutcome, NoOutcome}
