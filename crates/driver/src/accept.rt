@@ -92,9 +92,10 @@ fn has_own(c: Call, d: Description) -> bool
 }
 
 fn has_second(c: Call, d: Description) -> bool
-    ensures { λ r. ⌜ r ≡ ((call c 1 || (call c 2 || call c 3)) && (configured c d && hasSecondary d)) ⌝ }
+    ensures { λ r. ⌜ r ≡ ((call c 1 || (call c 2 || call c 3)) && hasSecondary (d .config)) ⌝ }
 {
-    any(c, 1, 2, 3) & (is_configured(c, d) & has_secondary(d))
+    let config = d.config;
+    any(c, 1, 2, 3) & has_secondary(config)
 }
 
 fn has_nack_set(c: Call, some: bool) -> bool

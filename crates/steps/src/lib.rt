@@ -466,7 +466,8 @@ fn then(c: Call, d: Description, v: View, s: SavedCall, a: u32, t: Step) -> Then
             Then::Goes(Step::Enable)
         }
         Step::Own => {
-            if call::has_secondary(d) {
+            let config = d.config;
+            if call::has_secondary(config) {
                 return Then::Goes(Step::Secondary);
             }
             own_then(c)

@@ -124,6 +124,7 @@ impl Bytes {
             own_ten_bit: it.own_ten != 0,
             secondary_address: some(it.secondary),
             mask: some(it.mask),
+            way: 0,
         };
         asked.refusal(self.buffer.len())
     }

@@ -9,5 +9,6 @@ is-configured-spec =
     tie.close
     (tie.spec
     (λ c κs. search needs)
+    (λ c κs. search needs)
     (λ c. search branches)
     (λ c. search branches))
