@@ -3,7 +3,7 @@
 use Prim.Native.Nat.{ℕ, _*_, _/_, _<_}
 use native.Mathlib.Omega.{arith}
 use mathlib.Core.Path.{_≡_, refl, sym, ap, _∙_, subst}
-use mathlib.Core.Bool.{Bool, cond, not}
+use mathlib.Core.Bool.{cond, not}
 use mathlib.Core.List.{List, [], _∷_, _++_, map}
 use lib.Dec.{T, T-not, eqb, eqb→eq, lit<}
 use lib.ListN.{length, take, drop}
@@ -35,8 +35,9 @@ use Rattle.calls.specs.declared.SavedCall.{SavedCall}
 use Rattle.calls.specs.declared.Verdict.{Verdict}
 use Rattle.calls.specs.declared.Verdict.the-variants.{Accepted, Refused as Rejected}
 use Rattle.driver.proofs.CameBack.{CameBack}
-use Rattle.saved.proofs.Round.{OfWords, read-written}
-use Rattle.saved.proofs.Words.{RunInRange, run-in-range, accepted-small, begin-words}
+use Rattle.saved.proofs.Round.{read-written}
+use Rattle.saved.proofs.Words.{accepted-small, begin-words, run-in-range}
+use Rattle.saved.specs.Range.{OfWords, RunInRange}
 use Rattle.saved.specs.Saved.{savedWords, savedBytes, savedIn, writtenTo}
 use Rattle.words.proofs.Round.{words-before, bytes-make-words}
 use Rattle.words.proofs.Turns.{length-bytes, words-drop}
@@ -268,7 +269,7 @@ module _ (c : Call) (a : CallDescription) (o : List ℕ) (n : ℕ) (ok : checkOf
       let z : length (C .buffer) ≡ n = g .size in
       let S : Run = advanceFrom q k s (C .buffer) l in
       let is : runIn C ≡ S = rw (e, f) (runs c (descriptionOf a) (operationsIn o) k s (C .buffer) l (rw z ok) (rw z (g .accepted)) ∙ rw z) in
-      let I : RunInRange q (accepted-small c (descriptionOf a) (operationsIn o) n ok) S =
+      let I : RunInRange q S =
       run-in-range q (accepted-small c (descriptionOf a) (operationsIn o) n ok) k s (C .buffer) l
       (record { accepted = g .accepted; of-words = g .of-words; bytes = C .buffer-bytes }) (bytes-make-words (C .answers) (C .answer-bytes)) in
       let long : length (C .saved) ≡ 32 = ap length (g .bytes) ∙ saved-length s in
@@ -303,7 +304,7 @@ begin-said B (Rejected r) e = record { refusal = ap (λ (x : Begin). x .refusal)
 begin-said B (Accepted c) e = record { refusal = ap (λ (x : Begin). x .refusal) (B .contract) ∙ rw e; saved = ap (λ (x : Begin). x .saved) (B .contract) ∙ rw e }
 
 -- ---- the theorem
-positive : (r : Refusal) → 0 < refusalNumber r
+pub positive : (r : Refusal) → 0 < refusalNumber r
 positive Address = lit< tt
 positive Long = lit< tt
 positive BadList = lit< tt

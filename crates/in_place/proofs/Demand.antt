@@ -3,6 +3,7 @@
 use mathlib.Core.List.{List, map}
 use Rattle.driver.proofs.CameBack.{CameBack}
 use Rattle.driver.proofs.Demand.{BeginCall, beginning, demand}
+use Rattle.driver.proofs.Demand as driver
 use Rattle.driver.specs.Demand.{Advancing, After, DriverDemand3}
 use Rattle.in_place.specs.Demand.{AdvancingInPlace, byValue}
 use Rattle.in_place.proofs.Contract.{Post}
@@ -36,34 +37,14 @@ inPlaceOf C =
       contract = C .contract;
     }
 
-abbrev pub valueOf : ValueCall → Advancing
-valueOf C =
-    let (d, (ops, (saved, (buffer, (answers, (log, _)))))) = C .given in
-    let (_, (_, (_, (bufferLeft, (_, (logLeft, _)))))) = C .left in
-    record {
-      saved = saved;
-      advance =
-          record {
-            words = d;
-            operations = ops .now;
-            buffer = buffer .now;
-            answers = answers .now;
-            log = log .now;
-            result = C .gave;
-            bufferLeft = bufferLeft .now;
-            logLeft = logLeft .now;
-          };
-      contract = C .contract;
-    }
-
--- a call of either
+-- A call of either. The contract of `advance` is that of the driver's to the letter, and so a call of it is one of those.
 pub data Called : Type 0 where
   lent : InPlaceCall → Called
   by-value : ValueCall → Called
 
 abbrev pub advancing : Called → Advancing
 advancing (lent C) = byValue (inPlaceOf C)
-advancing (by-value C) = valueOf C
+advancing (by-value C) = driver.advancing C
 
 -- every begin, and every list of either after it
 pub in-place-demand-3 : (B : BeginCall) (Cs : List Called) → After (beginning B) (map advancing Cs) →

@@ -24,7 +24,7 @@ use Rattle.calls.specs.Calls.{Request, numberOf, transaction, manual, receives,
 use Rattle.calls.specs.Outcomes.{outcomeValue, readdressed, isEventRead}
 use Rattle.calls.specs.Pieces.{Piece, pieceOf, pieceAt, blocksOf, piecesFor, piecesOf, viewOf}
 use Rattle.calls.specs.Refusals.{requestOf, checkOf, accepts}
-use Rattle.calls.specs.Run.{wordsOf, byteOf, Run, turnOf, advanceFrom}
+use Rattle.calls.specs.Run.{byteOf, turnOf, advanceFrom}
 use Rattle.calls.specs.Steps.{accessAt, accessOf, afterOf, applyOf, awaited, beginOf, countOf, is, noted, thenAt, waitAt}
 use Rattle.calls.specs.Words.{cr2Of, timingrOf, oar1Of, oar2Of, alterOf}
 use Rattle.calls.specs.declared.Access.{Access}
@@ -45,7 +45,7 @@ use Rattle.calls.specs.declared.Verdict.the-variants.{Accepted}
 use Rattle.calls.specs.declared.View.{View}
 use Rattle.words.proofs.Round.{below-at}
 use Rattle.words.specs.Words.{Below}
-use Rattle.saved.proofs.Round.{OfWords}
+use Rattle.saved.specs.Range.{OfWords, InRange, RunInRange}
 
 abbrev word : ℕ
 word = 4294967296
@@ -321,28 +321,18 @@ set-below (y ∷ b) zero x h g = (g, h .1)
 set-below (y ∷ b) (suc i) x h g = (h .0, set-below b i x (h .1) g)
 
 module _ (q : Request) (small : Small (piecesOf q)) where
-  -- row 13 takes the saved call, its numbers are words, and the buffer's are bytes
-  pub record InRange (s : SavedCall) (b : List ℕ) : Type 0 where
-    pub accepted : T (accepts q s)
-    pub of-words : OfWords s
-    pub bytes : Below 256 b
-
-  pub record RunInRange (R : Run) : Type 0 where
-    pub after : InRange (R .saved) (R .buffer)
-    pub entries : Below word (wordsOf (R .entries))
-
-  goes-on : (s : SavedCall) (b : List ℕ) (a : ℕ) (b′ : List ℕ) → InRange s b → T (made (accessOf q b s)) → a < word → Below 256 b′ →
-      InRange (afterOf q s a) b′
+  goes-on : (s : SavedCall) (b : List ℕ) (a : ℕ) (b′ : List ℕ) → InRange q s b → T (made (accessOf q b s)) → a < word → Below 256 b′ →
+      InRange q (afterOf q s a) b′
   goes-on s b a b′ i h g k =
       let n : T (not (is (s .step) Ended)) = both (is (s .step) Ended) (λ e. absurd (rw (no-access q b s e) at h)) (λ n. n) in
       record { accepted = accepted-after q s a (i .accepted); of-words = words-after q small s a (i .accepted) n (i .of-words) g; bytes = k }
 
-  written : (s : SavedCall) (b : List ℕ) → InRange s b → Written (accessOf q b s)
+  written : (s : SavedCall) (b : List ℕ) → InRange q s b → Written (accessOf q b s)
   unfolding accessOf
   written s b i = writes (q .call) (q .words) (viewOf q s) b s (i .bytes) (i .of-words .word) (s .step)
 
-  module _ (n : ℕ) (ih : (s : SavedCall) (b l : List ℕ) → InRange s b → Below word l → RunInRange (advanceFrom q n s b l)) (s : SavedCall) (b : List ℕ) (i : InRange s b) where
-    turn : (l : List ℕ) (x : Access) → accessOf q b s ≡ x → Below word l → RunInRange (turnOf (advanceFrom q n) q s b l x)
+  module _ (n : ℕ) (ih : (s : SavedCall) (b l : List ℕ) → InRange q s b → Below word l → RunInRange q (advanceFrom q n s b l)) (s : SavedCall) (b : List ℕ) (i : InRange q s b) where
+    turn : (l : List ℕ) (x : Access) → accessOf q b s ≡ x → Below word l → RunInRange q (turnOf (advanceFrom q n) q s b l x)
     turn l Nothing e k = record { after = i; entries = tt }
     turn l (Write r v) e k =
         let p = ih (afterOf q s 0) b l (goes-on s b 0 b i (rw e tt) no-word (i .bytes)) k in
@@ -358,7 +348,7 @@ module _ (q : Request) (small : Small (piecesOf q)) where
         (goes-on s b a _ i (rw e tt) (k .0) (set-below b j (byteOf a) (i .bytes) (omega arith))) (k .1) in
         record { after = p .after; entries = (omega (arith, offset-below Rxdr), (k .0, p .entries)) }
 
-  pub run-in-range : (n : ℕ) (s : SavedCall) (b l : List ℕ) → InRange s b → Below word l → RunInRange (advanceFrom q n s b l)
+  pub run-in-range : (n : ℕ) (s : SavedCall) (b l : List ℕ) → InRange q s b → Below word l → RunInRange q (advanceFrom q n s b l)
   unfolding advanceFrom
   run-in-range zero s b l i k = record { after = i; entries = tt }
   run-in-range (suc n) s b l i k = turn n (run-in-range n) s b i l (accessOf q b s) refl k

@@ -18,4 +18,10 @@ huskerivory-begin-spec =
     (λ c. counted _ _ _ _ (c .before .before .before .decode .ensures))
     (λ c κs. search needs)
     (λ c. search needs)
-    (λ c. c .before .before .begin .ensures ∙ rw (listed (c .before .before .before .before .before .before .before .before .before .before .before .before .before .args .operations .now) _ _ _ (c .before .before .before .before .before .before .before .before .before .list .ensures) (c .before .before .before .before .before .before .before .decode .ensures), c .before .before .before .before .before .describe .ensures)))
+    (λ c.
+    let begun = c .before .before in
+    let described = begun .before .before .before in
+    let decoded = described .before .before in
+    let made = decoded .before .before in
+    let start = made .before .before .before .before in
+    begun .begin .ensures ∙ rw (listed (start .args .operations .now) _ _ _ (made .list .ensures) (decoded .decode .ensures), described .describe .ensures)))

@@ -17,4 +17,9 @@ huskerivory-next-spec =
     (λ c. room _ _ _ _ (c .before .before .decode .ensures))
     (λ c. counted _ _ _ _ (c .before .before .before .decode .ensures))
     (λ c κs. search needs)
-    (λ c. c .next .ensures ∙ rw (listed (c .before .before .before .before .before .before .before .before .before .before .args .operations .now) _ _ _ (c .before .before .before .before .before .before .list .ensures) (c .before .before .before .before .decode .ensures), c .before .before .describe .ensures)))
+    (λ c.
+    let described = c .before .before in
+    let decoded = described .before .before in
+    let made = decoded .before .before in
+    let start = made .before .before .before .before in
+    c .next .ensures ∙ rw (listed (start .args .operations .now) _ _ _ (made .list .ensures) (decoded .decode .ensures), described .describe .ensures)))
