@@ -124,9 +124,10 @@ pub extern "C" fn huskerivory_begin(
 ) -> u32
     ensures { λ r. ⌜ asBegin r (now (saved .exit)) ≡ beginIn (descriptionOf description) (operationsIn (now (operations .entry))) (length (now (buffer .entry))) (now (saved .entry)) ⌝ }
 {
+    let d = call::describe(description);
     let mut ops = list();
     let n = words::decode(operations, &mut ops);
-    call::begin(call::describe(description), &ops[..n], buffer, saved)
+    call::begin(d, &ops[..n], buffer, saved)
 }
 
 // Advances a call with answers, and leaves its accesses in the log.
@@ -141,16 +142,10 @@ pub extern "C" fn huskerivory_advance(
 ) -> AdvanceAnswer
     ensures { λ r. ⌜ asFinal r (now (saved .exit)) (now (buffer .exit)) (now (log .exit)) ≡ finalIn (descriptionOf description) (operationsIn (now (operations .entry))) (now (saved .entry)) (now (buffer .entry)) (now (answers .entry)) (now (log .entry)) ⌝ }
 {
+    let d = call::describe(description);
     let mut ops = list();
     let n = words::decode(operations, &mut ops);
-    call::advance(
-        call::describe(description),
-        &ops[..n],
-        saved,
-        buffer,
-        answers,
-        log,
-    )
+    call::advance(d, &ops[..n], saved, buffer, answers, log)
 }
 
 // The access that the next advance makes first.
@@ -163,7 +158,8 @@ pub extern "C" fn huskerivory_next(
 ) -> AccessAnswer
     ensures { λ r. ⌜ r ≡ accessIn (descriptionOf description) (operationsIn (now (operations .entry))) (now (saved .entry)) (now (buffer .entry)) ⌝ }
 {
+    let d = call::describe(description);
     let mut ops = list();
     let n = words::decode(operations, &mut ops);
-    call::next(call::describe(description), &ops[..n], saved, buffer)
+    call::next(d, &ops[..n], saved, buffer)
 }

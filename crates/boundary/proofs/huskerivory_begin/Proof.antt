@@ -11,11 +11,18 @@ huskerivory-begin-spec =
     tie.close
     (tie.spec
     (λ c κs. search needs)
-    (λ c. search needs)
-    (λ c κs. search needs)
-    (λ c κs. search needs)
-    (λ c. room _ _ _ _ (c .before .before .decode .ensures))
-    (λ c. counted _ _ _ _ (c .before .before .before .decode .ensures))
     (λ c κs. search needs)
     (λ c. search needs)
-    (λ c. c .before .before .begin .ensures ∙ rw (listed (c .before .before .before .before .before .before .before .before .before .before .before .before .before .args .operations .now) _ _ _ (c .before .before .before .before .before .before .before .before .before .list .ensures) (c .before .before .before .before .before .before .before .decode .ensures), c .before .before .before .before .before .describe .ensures)))
+    (λ c κs. search needs)
+    (λ c. room _ _ _ _ (c .before .decode .ensures))
+    (λ c. counted _ _ _ _ (c .before .before .decode .ensures))
+    (λ c κs. search needs)
+    (λ c. search needs)
+    (λ c.
+    let read = c .before .before .before .before .before .before in
+    let came = read .before .before .before .before .before .before .before in
+    c .before .before .begin .ensures
+    ∙ rw (
+      listed (came .args .operations .now) _ _ _ (read .before .before .list .ensures) (read .decode .ensures),
+      read .before .before .before .describe .ensures,
+    )))

@@ -11,10 +11,17 @@ huskerivory-next-spec =
     tie.close
     (tie.spec
     (λ c κs. search needs)
+    (λ c κs. search needs)
     (λ c. search needs)
     (λ c κs. search needs)
+    (λ c. room _ _ _ _ (c .before .decode .ensures))
+    (λ c. counted _ _ _ _ (c .before .before .decode .ensures))
     (λ c κs. search needs)
-    (λ c. room _ _ _ _ (c .before .before .decode .ensures))
-    (λ c. counted _ _ _ _ (c .before .before .before .decode .ensures))
-    (λ c κs. search needs)
-    (λ c. c .next .ensures ∙ rw (listed (c .before .before .before .before .before .before .before .before .before .before .args .operations .now) _ _ _ (c .before .before .before .before .before .before .list .ensures) (c .before .before .before .before .decode .ensures), c .before .before .describe .ensures)))
+    (λ c.
+    let read = c .before .before .before in
+    let came = read .before .before .before .before .before .before .before in
+    c .next .ensures
+    ∙ rw (
+      listed (came .args .operations .now) _ _ _ (read .before .before .list .ensures) (read .decode .ensures),
+      read .before .before .before .describe .ensures,
+    )))
