@@ -21,6 +21,8 @@ mod wrong;
 use std::io;
 use std::time::Duration;
 
+use oracle::WAYS;
+
 use crate::calls::case::Case;
 use crate::calls::generate;
 use crate::calls::outside::Row;
@@ -78,13 +80,20 @@ impl Comparison {
         Ok(ended)
     }
 
-    /// The fixed sample of calls, each cut in several ways, and what the Rust does with refused ones.
+    /// The fixed sample of calls, each cut in several ways; those that configure a target by the Rust's
+    /// setters in every way; and an example of everything that the Rust does with refused ones.
     fn sample(&mut self) -> Result<(), Stop> {
         self.progress.part = "the sample".to_string();
         let calls = sample::calls();
         for (_, case) in &calls {
             for _ in 0..CUTS {
                 self.check(case.into(), true)?;
+            }
+            if matches!(case.asked.call, 1..=3) {
+                for way in 0..WAYS {
+                    let case = case.clone().asking(|asked| asked.way = way);
+                    self.check((&case).into(), false)?;
+                }
             }
         }
         for row in Row::ALL {
@@ -226,6 +235,7 @@ pub fn compare(limit: Limit, seed: u64) -> io::Result<bool> {
     let all = short || differences > 0 || reached;
     if !all {
         println!("runs: a call, an outcome, a refusal or a kind of run was not reached");
+        kinds.print_missing();
     }
     println!(
         "runs: {} runs compared, {differences} differences",

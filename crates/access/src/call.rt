@@ -3,12 +3,11 @@ ghost use mathlib.Core.Path.{_≡_};
 ghost use mathlib.Core.Bool.{_&&_, not};
 ghost use Prim.Native.Nat.{_<_};
 ghost use lib.Dec.{leb};
-ghost use Rattle.calls.specs.Calls.{byAck, numberOf, call, kinds, transaction, manual, receives, transmits, eventful, isConfigured, configured, isSecondary, hasSecondary};
+ghost use Rattle.calls.specs.Calls.{byAck, numberOf, call, kinds, transaction, manual, receives, transmits, eventful, isConfigured, isSecondary, hasSecondary};
 ghost use Rattle.calls.specs.Outcomes.{isDone, isEventRead, outcomeValue};
 use calls::Ack;
 use calls::Call;
 use calls::Configuration;
-use calls::Description;
 use calls::Outcome;
 use calls::SecondaryAddress;
 
@@ -144,13 +143,6 @@ pub fn has_configuration(config: Configuration) -> bool
         Configuration::Unconfigured => false,
         Configuration::Configured(_) => true,
     }
-}
-
-pub fn is_configured(c: Call, d: Description) -> bool
-    ensures { λ r. ⌜ r ≡ configured c d ⌝ }
-{
-    let config = d.config;
-    !is_call(c, 1) || has_configuration(config)
 }
 
 fn is_secondary(address: SecondaryAddress) -> bool

@@ -1,6 +1,6 @@
 -- What the C boundary gives for a call: the core's begin, advance and next access over what the bytes mean. Assumes nothing.
 use Prim.Native.Nat.{ℕ, _+_, _*_, _/_}
-use mathlib.Core.Bool.{Bool, true, false, cond, not, _&&_, _||_}
+use mathlib.Core.Bool.{Bool, true, false, cond, not, _||_}
 use mathlib.Core.List.{List, [], _∷_, _++_}
 use lib.Dec.{eqb}
 use lib.ListN.{length, take, drop}
@@ -32,12 +32,12 @@ abbrev pub yes : ℕ → Bool
 yes n = not (eqb n 0)
 
 -- 1 has a configuration where it says so, 2 and 3 always.
-abbrev pub hasConfiguration : CallDescription → Bool
-hasConfiguration a = (eqb (a .call) 1 && yes (a .configured)) || (eqb (a .call) 2 || eqb (a .call) 3)
+abbrev pub hasConfiguration : ℕ → ℕ → Bool
+hasConfiguration call configured = cond (eqb call 1) (yes configured) (eqb call 2 || eqb call 3)
 
 abbrev pub configurationOf : CallDescription → Configuration
 configurationOf a =
-    cond (hasConfiguration a) (Configured (configIn (a .own) (a .«own_ten») (a .secondary) (a .mask))) Unconfigured
+    cond (hasConfiguration (a .call) (a .configured)) (Configured (configIn (a .own) (a .«own_ten») (a .secondary) (a .mask))) Unconfigured
 
 abbrev pub descriptionOf : CallDescription → Description
 descriptionOf a =

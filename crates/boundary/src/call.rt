@@ -54,16 +54,21 @@ pub struct AccessAnswer {
 }
 
 // 1 has a configuration where it says so, 2 and 3 always.
-fn is_configured(a: CallDescription) -> bool
-    ensures { λ r. ⌜ r ≡ hasConfiguration a ⌝ }
+fn is_configured(call: u32, configured: u32) -> bool
+    ensures { λ r. ⌜ r ≡ hasConfiguration call configured ⌝ }
 {
-    ((a.call == 1) & (a.configured != 0)) | ((a.call == 2) | (a.call == 3))
+    match call {
+        1 => configured != 0,
+        2 => true,
+        3 => true,
+        _ => false,
+    }
 }
 
 fn configuration(a: CallDescription) -> Configuration
     ensures { λ r. ⌜ r ≡ configurationOf a ⌝ }
 {
-    if is_configured(a) {
+    if is_configured(a.call, a.configured) {
         let config = address_words::config(a.own, a.own_ten, a.secondary, a.mask);
         return Configuration::Configured(config);
     }

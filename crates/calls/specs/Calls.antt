@@ -1,7 +1,7 @@
 -- The listed calls with document 01's numbers, what each has to do with bytes and events, and what is asked of one.
 -- Assumes nothing.
 use Prim.Native.Nat.{ℕ, _+_}
-use mathlib.Core.Bool.{Bool, true, false, not, _||_}
+use mathlib.Core.Bool.{Bool, true, false, _||_}
 use mathlib.Core.List.{List}
 use lib.Dec.{eqb, leb}
 use Rattle.calls.specs.declared.Ack.{Ack}
@@ -80,7 +80,7 @@ transmits c = kinds c 10 || kinds c 12
 abbrev pub eventful : Call → Bool
 eventful c = kinds c 8 || (kinds c 11 || (kinds c 12 || kinds c 13))
 
--- what a configuration has
+-- what a description may have or lack: a configuration, and in it a secondary address
 abbrev pub isConfigured : Configuration → Bool
 isConfigured Unconfigured = false
 isConfigured (Configured t) = true
@@ -92,10 +92,6 @@ isSecondary (Secondary address) = true
 abbrev pub hasSecondary : Configuration → Bool
 hasSecondary Unconfigured = false
 hasSecondary (Configured t) = isSecondary (t .secondary)
-
--- 1 writes its own addresses where it is configured, 2 and 3 always: without a configuration they are refused
-abbrev pub configured : Call → Description → Bool
-configured c d = not (call c 1) || isConfigured (d .config)
 
 -- A listed call with all that describes it: the words, the operation list, and the lent buffer's length.
 pub record Request : Type 0 where

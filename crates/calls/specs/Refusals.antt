@@ -6,7 +6,7 @@ use mathlib.Core.List.{List, [], _∷_}
 use lib.Dec.{eqb, ltb, leb}
 use lib.ListN.{length}
 use Rattle.fields.specs.Field.{place, getOf}
-use Rattle.calls.specs.Calls.{Request, numberOf, call, transaction, manual, receives, transmits, eventful, isConfigured, configured, hasSecondary}
+use Rattle.calls.specs.Calls.{Request, numberOf, call, transaction, manual, receives, transmits, eventful, isConfigured, hasSecondary}
 use Rattle.calls.specs.Pieces.{operation-length, piecesOf, viewAt, viewOf, there}
 use Rattle.calls.specs.Steps.{is}
 use Rattle.calls.specs.declared.Ack.the-variants.{AutoAck, ManualAck}
@@ -192,7 +192,7 @@ hasIn c d some stop = eventful c || (transaction c && some)
 hasIn c d some errors = eventful c || ((transaction c || (receives c || transmits c)) && some)
 hasIn c d some nack = (transaction c || transmits c) && some
 hasIn c d some timing = call c 1 || call c 2
-hasIn c d some own = (call c 1 || (call c 2 || call c 3)) && configured c d
+hasIn c d some own = call c 3 || ((call c 1 || call c 2) && isConfigured (d .config))
 hasIn c d some second = (call c 1 || (call c 2 || call c 3)) && hasSecondary (d .config)
 hasIn c d some enable = call c 1
 hasIn c d some reset = call c 6

@@ -52,8 +52,8 @@ targetTiming t = record { presc = t .presc; scldel = t .scldel; sdadel = t .sdad
 unfoldable pub timingrOf : Call → Description → ℕ
 timingrOf c d = let t = unpackOf (d .timing) in cond (call c 2) (wordOf (targetTiming t)) (wordOf t)
 
--- OAR1 and OAR2 of a configuration. Where there is no own or no secondary address the register is not written, and
--- what it would be is its reset value.
+-- OAR1 and OAR2 of a configuration. Without one neither is written, and OAR2 not without a secondary address: there the
+-- reset values stand.
 abbrev pub ownWord : AddressMode → ℕ → ℕ
 ownWord AddressMode7bit own = sevenBitOwn own
 ownWord AddressMode10bit own = tenBitOwn own

@@ -107,8 +107,10 @@ impl Answers {
 
     /// So many bytes of a target's transfer go well.
     pub fn moving(self, bytes: usize) -> Self {
+        let bytes = bytes as u32;
         Answers {
-            bytes: self.bytes.and(Some(bytes as u32)),
+            left: self.left + 10 * bytes,
+            bytes: self.bytes.and(Some(bytes)),
             ..self
         }
     }

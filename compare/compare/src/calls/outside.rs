@@ -106,22 +106,24 @@ impl Row {
 
 /// The rows that tell the Rust's run of a refused call; or what none of them tells.
 pub fn rows(case: &Case) -> Result<Vec<Row>, String> {
-    let Some(seen) = Seen::of(case) else {
+    let Some(given) = RustRun::of(case) else {
         return Ok(vec![Row::NotExpressed]);
     };
     let mut rows = Vec::new();
     let expected = match (case.asked.call, case.buffer.len()) {
-        (7, _) => transacted(case, &mut rows),
-        (9..=12, 0) => empty(case, &mut rows),
-        (9..=12 | 25..=28, _) => long(case, &mut rows),
-        _ => aside(case, &mut rows),
+        (7, _) => transaction_run(case, &mut rows),
+        (9..=12, 0) => empty_run(case, &mut rows),
+        (9..=12 | 25..=28, _) => long_run(case, &mut rows),
+        _ => run_aside(case, &mut rows),
     };
-    expected.holds_of(&seen)?;
+    expected.same(&given)?;
+    rows.sort();
+    rows.dedup();
     Ok(rows)
 }
 
-/// A run of the Rust.
-struct Seen {
+/// What the Rust does, or is expected to do.
+struct RustRun {
     log: Vec<Access>,
     buffer: Vec<u8>,
     end: End,
@@ -131,13 +133,11 @@ struct Seen {
 enum End {
     Outcome(Outcome, u32),
     Panics(PanicKind),
-    /// The run goes on after the log, and the buffer after its bytes.
-    Open,
 }
 
-impl Seen {
+impl RustRun {
     /// None where the driver's types cannot express the call.
-    fn of(case: &Case) -> Option<Seen> {
+    fn of(case: &Case) -> Option<RustRun> {
         let description = case.asked.description(case.buffer.len())?;
         let mut buffer = case.buffer.clone();
         let run = oracle::run(&description, &mut buffer, &case.answers);
@@ -148,51 +148,46 @@ impl Seen {
             Outcome::Panicked(panic) => End::Panics(panic.kind),
             outcome => End::Outcome(outcome, run.value),
         };
-        Some(Seen {
+        Some(RustRun {
             log: run.log,
             buffer,
             end,
         })
     }
 
-    /// The run of an accepted call.
-    fn of_accepted(case: &Case) -> Seen {
+    fn of_accepted(case: &Case) -> RustRun {
         debug_assert_eq!(case.asked.refusal(case.buffer.len()), None);
-        Seen::of(case).expect("the driver can express what is accepted")
+        RustRun::of(case).expect("the driver can express what is accepted")
     }
 
-    /// Ends the run before the entry at this place.
+    /// Ends before the entry at this place.
     fn cut(&mut self, place: usize, end: End) {
         self.log.truncate(place);
         self.end = end;
     }
 
-    fn holds_of(&self, seen: &Seen) -> Result<(), String> {
+    /// The call's answers that are left before the entry at this place.
+    fn answers_left(&self, place: usize, case: &Case) -> Vec<u32> {
+        let reads = self.log[..place].iter().filter(|entry| entry[0] < WRITTEN);
+        case.answers[reads.count()..].to_vec()
+    }
+
+    fn same(&self, given: &RustRun) -> Result<(), String> {
         let told = |what| Err(format!("what the Rust does with a refused call: {what}"));
-        let open = self.end == End::Open;
-        let log = if open {
-            seen.log.starts_with(&self.log)
-        } else {
-            seen.log == self.log
-        };
-        let buffer = if open {
-            seen.buffer.starts_with(&self.buffer)
-        } else {
-            seen.buffer == self.buffer
-        };
-        if !log {
-            let both = self.log.iter().zip(&seen.log);
+        if self.log != given.log {
+            let both = self.log.iter().zip(&given.log);
             let place = both.take_while(|(a, b)| a == b).count();
-            let at = |log: &[Access]| log.get(place).copied();
-            let (expected, seen) = (at(&self.log), at(&seen.log));
+            let at = |run: &RustRun| run.log.get(place).copied();
             return told(format!(
-                "entry {place} of the log: expected {expected:X?}, seen {seen:X?}"
+                "entry {place} of the log: expected {:X?}, given {:X?}",
+                at(self),
+                at(given)
             ));
         }
-        if !open && self.end != seen.end {
-            return told(format!("expected {:?}, seen {:?}", self.end, seen.end));
+        if self.end != given.end {
+            return told(format!("expected {:?}, given {:?}", self.end, given.end));
         }
-        if !buffer {
+        if self.buffer != given.buffer {
             return told("the buffer differs".to_string());
         }
         Ok(())
@@ -201,7 +196,7 @@ impl Seen {
 
 /// Call 7: wide addresses are cut, a long operation panics where it is reached, and there may be any
 /// number of operations.
-fn transacted(case: &Case, rows: &mut Vec<Row>) -> Seen {
+fn transaction_run(case: &Case, rows: &mut Vec<Row>) -> RustRun {
     let Asked {
         address,
         ten_bit,
@@ -211,40 +206,48 @@ fn transacted(case: &Case, rows: &mut Vec<Row>) -> Seen {
     let most = if ten_bit { 0x3FF } else { 0x7F };
     let mut near = with_short_list(case);
     near.asked.address &= most;
-    let mut expected = Seen::of_accepted(&near);
+    let mut expected = RustRun::of_accepted(&near);
     if address > most && ten_bit {
         rows.push(Row::TenBitAddress);
     } else if address > most {
         rows.push(Row::SevenBitAddress);
-        let starts = expected.log.iter_mut().filter(|it| is_control(it));
-        starts
-            .filter(|it| it[1] & START != 0)
-            .for_each(|it| it[1] |= 0x100);
+        let starts = |entry: &&mut Access| is_control(entry) && entry[1] & START != 0;
+        let starts = expected.log.iter_mut().filter(starts);
+        starts.for_each(|entry| entry[1] |= 0x100);
     }
-    // The two part at the CR2 word of a long operation, or of the last of a list that goes on.
+    // The two part at the CR2 word of a long operation, or of the 64th of more.
     let long = operations.iter().position(|&word| length(word) > 255);
     let last = (operations.len() > OPERATIONS).then_some(OPERATIONS - 1);
     let parted = long.into_iter().chain(last).min();
-    let kept = operations[..parted.unwrap_or(operations.len())].iter();
-    let kept = kept.map(|&word| length(word)).sum();
+    let before = &operations[..parted.unwrap_or(operations.len())];
+    let bytes = before.iter().map(|&word| length(word)).sum();
+    expected.buffer.truncate(bytes);
     let mut controls = (0..expected.log.len()).filter(|&it| is_control(&expected.log[it]));
-    let place = parted.and_then(|parted| controls.nth(parted));
-    expected.buffer.truncate(kept);
-    match place {
+    match parted.and_then(|parted| controls.nth(parted)) {
         Some(place) if parted == long => {
             rows.push(Row::LongOperation);
             expected.cut(place, End::Panics(PanicKind::Long));
-            expected.buffer.extend(&case.buffer[kept..]);
+            expected.buffer.extend(&case.buffer[bytes..]);
         }
         Some(place) => {
             rows.push(Row::ManyOperations);
-            let [code, word] = expected.log[place];
-            let same = (operations[OPERATIONS - 1] ^ operations[OPERATIONS]) & READ == 0;
-            expected.cut(place, End::Open);
-            let word = word & !AUTOEND | if same { RELOAD } else { 0 };
-            expected.log.push([code, word]);
+            let rest = Case {
+                asked: Asked {
+                    operations: operations[OPERATIONS - 1..].to_vec(),
+                    ..case.asked.clone()
+                },
+                buffer: case.buffer[bytes..].to_vec(),
+                answers: expected.answers_left(place, case),
+            };
+            let rest = transaction_run(&rest, rows);
+            let ending = rest.log[0][1] & (AUTOEND | RELOAD);
+            expected.log[place][1] = expected.log[place][1] & !(AUTOEND | RELOAD) | ending;
+            expected.log.truncate(place + 1);
+            expected.log.extend(&rest.log[1..]);
+            expected.buffer.extend(rest.buffer);
+            expected.end = rest.end;
         }
-        None => expected.buffer.extend(&case.buffer[kept..]),
+        None => expected.buffer.extend(&case.buffer[bytes..]),
     }
     expected
 }
@@ -275,23 +278,19 @@ fn with_short_list(case: &Case) -> Case {
 }
 
 /// An AutoAck transfer without a byte panics after its event, if there is to be one.
-fn empty(case: &Case, rows: &mut Vec<Row>) -> Seen {
-    let mut near = case.clone();
-    near.asked.call = 8;
-    let mut expected = Seen::of_accepted(&near);
+fn empty_run(case: &Case, rows: &mut Vec<Row>) -> RustRun {
+    let event = case.clone().asking(|asked| asked.call = 8);
+    let mut expected = RustRun::of_accepted(&event);
     let panics = End::Panics(PanicKind::Empty);
-    if matches!(case.asked.call, 9 | 10) {
-        expected.cut(0, panics);
-    } else if let End::Outcome(outcome, _) = expected.end {
-        let receives = case.asked.call == 11;
-        expected.end = match outcome {
-            Outcome::EventWrite if receives => panics,
-            Outcome::EventRead if !receives => panics,
-            Outcome::EventRead => End::Outcome(Outcome::ExpectedWrite, 0),
-            Outcome::EventWrite => End::Outcome(Outcome::ExpectedRead, 0),
-            Outcome::EventStop => End::Outcome(Outcome::Stopped, 0),
-            outcome => End::Outcome(outcome, 0),
-        };
+    let other = |outcome| End::Outcome(outcome, 0);
+    match (case.asked.call, &expected.end) {
+        (9 | 10, _) => expected.cut(0, panics),
+        (11, End::Outcome(Outcome::EventWrite, _)) => expected.end = panics,
+        (12, End::Outcome(Outcome::EventRead, _)) => expected.end = panics,
+        (_, End::Outcome(Outcome::EventRead, _)) => expected.end = other(Outcome::ExpectedWrite),
+        (_, End::Outcome(Outcome::EventWrite, _)) => expected.end = other(Outcome::ExpectedRead),
+        (_, End::Outcome(Outcome::EventStop, _)) => expected.end = other(Outcome::Stopped),
+        _ => {}
     }
     if matches!(expected.end, End::Panics(_)) {
         rows.push(Row::EmptyBuffer);
@@ -299,39 +298,65 @@ fn empty(case: &Case, rows: &mut Vec<Row>) -> Seen {
     expected
 }
 
-/// A transfer of more bytes than may be lent goes as one of the most bytes does, and then on.
-fn long(case: &Case, rows: &mut Vec<Row>) -> Seen {
-    let mut near = case.clone();
-    near.buffer.truncate(BYTES);
-    let mut expected = Seen::of_accepted(&near);
-    let moves = |entry: &Access| [RXDR, WRITTEN + TXDR].contains(&entry[0]);
-    let mut moved = (0..expected.log.len()).filter(|&it| moves(&expected.log[it]));
-    match moved.nth(BYTES - 1) {
-        Some(last) => {
-            rows.push(Row::LongBuffer);
-            expected.cut(last + 1, End::Open);
+/// A transfer of more bytes than may be lent goes as one of the most bytes does, and then as one of
+/// the rest.
+fn long_run(case: &Case, rows: &mut Vec<Row>) -> RustRun {
+    let (first, rest) = case.buffer.split_at(BYTES);
+    let mut expected = RustRun::of_accepted(&case.clone().bytes(first));
+    let log = expected.log.iter();
+    let before_flush = log.take_while(|&&it| it != [WRITTEN + ICR, NACKF]).count();
+    let moves = |&it: &usize| [RXDR, WRITTEN + TXDR].contains(&expected.log[it][0]);
+    let Some(last) = (0..before_flush).filter(moves).nth(BYTES - 1) else {
+        expected.buffer.extend(rest);
+        return expected;
+    };
+    rows.push(Row::LongBuffer);
+    let call = match case.asked.call {
+        call @ (11 | 12 | 27 | 28) => call - 2,
+        call => call,
+    };
+    let rest = RustRun::of_accepted(&Case {
+        asked: Asked {
+            call,
+            ..case.asked.clone()
+        },
+        buffer: rest.to_vec(),
+        answers: expected.answers_left(last + 1, case),
+    });
+    expected.cut(last + 1, rest.end);
+    if let End::Outcome(Outcome::Done, count) = &mut expected.end {
+        *count += BYTES as u32;
+        // The byte before a NACK is not counted, and here it is one of the first.
+        let nack = rest.log.iter().find(|entry| entry[0] >= WRITTEN);
+        if call == 10 && nack == Some(&[WRITTEN + ICR, NACKF]) {
+            *count -= 1;
         }
-        None => expected.buffer.extend(&case.buffer[BYTES..]),
     }
+    let mut log = rest.log;
+    if call >= 24 && log.len() > 2 {
+        log.remove(2); // ADDRCF is cleared before the first block alone.
+    }
+    expected.log.extend(log);
+    expected.buffer.extend(rest.buffer);
     expected
 }
 
 /// Other calls have no use for a buffer; the words of a configuration are cut to their fields.
-fn aside(case: &Case, rows: &mut Vec<Row>) -> Seen {
+fn run_aside(case: &Case, rows: &mut Vec<Row>) -> RustRun {
     let mut near = case.clone();
     if case.buffer.len() > BYTES {
         rows.push(Row::BufferAside);
         near.buffer.clear();
     }
     let mut expected = match case.asked.call {
-        1..=3 => configured(near, rows),
-        _ => Seen::of_accepted(&near),
+        1..=3 => configured_run(near, rows),
+        _ => RustRun::of_accepted(&near),
     };
     expected.buffer = case.buffer.clone();
     expected
 }
 
-fn configured(mut near: Case, rows: &mut Vec<Row>) -> Seen {
+fn configured_run(mut near: Case, rows: &mut Vec<Row>) -> RustRun {
     let asked = &mut near.asked;
     let own = asked.own_address;
     if asked.own_ten_bit && own > 0x3FF {
@@ -355,14 +380,16 @@ fn configured(mut near: Case, rows: &mut Vec<Row>) -> Seen {
         });
         asked.mask = Some(mask & 7).filter(|&it| it < 7);
     }
-    let seven_bit = !asked.own_ten_bit;
-    let mut expected = Seen::of_accepted(&near);
-    for entry in &mut expected.log {
-        if seven_bit && entry[0] == WRITTEN + OAR1 {
-            entry[1] |= own << 1 & 0x300;
-        }
+    let above = if asked.own_ten_bit { 0 } else { 0x300 };
+    let mut expected = RustRun::of_accepted(&near);
+    let place = |register| {
+        let written = |entry: &Access| entry[0] == WRITTEN + register;
+        expected.log.iter().position(written)
+    };
+    let (primary, secondary) = (place(OAR1), place(OAR2));
+    if let Some(place) = primary {
+        expected.log[place][1] |= own << 1 & above;
     }
-    let secondary = expected.log.iter().position(|it| it[0] == WRITTEN + OAR2);
     if let (true, Some(place)) = (panics, secondary) {
         expected.cut(place, End::Panics(PanicKind::Mask));
     }
@@ -372,6 +399,8 @@ fn configured(mut near: Case, rows: &mut Vec<Row>) -> Seen {
 #[cfg(test)]
 mod tests {
     use super::*;
+    use crate::calls::answers::Answers;
+    use crate::calls::build::counted;
     use crate::calls::generate;
     use crate::random::Random;
 
@@ -398,41 +427,82 @@ mod tests {
     #[test]
     fn nothing_else_is_excused() {
         let case = Row::SevenBitAddress.example();
-        let expected = || transacted(&case, &mut Vec::new());
-        let differs = |change: fn(&mut Seen)| {
-            let mut seen = Seen::of(&case).unwrap();
-            change(&mut seen);
-            expected().holds_of(&seen).is_err()
+        let expected = transaction_run(&case, &mut Vec::new());
+        let differs = |change: fn(&mut RustRun)| {
+            let mut given = RustRun::of(&case).unwrap();
+            change(&mut given);
+            expected.same(&given).is_err()
         };
         assert!(!differs(|_| {}));
-        assert!(differs(|seen| seen.log[0][1] ^= 0x100));
-        assert!(differs(|seen| seen.log.truncate(3)));
-        assert!(differs(|seen| seen.log.push([0, 0])));
-        assert!(differs(|seen| seen.buffer[0] = 0));
-        assert!(differs(|seen| seen.end = End::Outcome(Outcome::Done, 1)));
-        assert!(differs(|seen| seen.end = End::Panics(PanicKind::Long)));
+        assert!(differs(|given| given.log[0][1] ^= 0x100));
+        assert!(differs(|given| given.log.truncate(3)));
+        assert!(differs(|given| given.log.push([0, 0])));
+        assert!(differs(|given| given.buffer[0] = 0));
+        assert!(differs(|given| given.end = End::Outcome(Outcome::Done, 1)));
+        assert!(differs(|given| given.end = End::Panics(PanicKind::Long)));
     }
 
     #[test]
-    fn a_row_ends_where_the_run_does_not_come_so_far() {
-        let without = |row: Row, answers| {
+    fn a_row_is_told_once_a_run_comes_to_it() {
+        let with = |row: Row, answers| {
             let mut case = row.example();
             case.answers.truncate(answers);
             rows(&case)
         };
-        assert_eq!(without(Row::ManyOperations, 3 * 63 - 1), Ok(vec![]));
-        assert_eq!(
-            without(Row::ManyOperations, 3 * 63),
-            Ok(vec![Row::ManyOperations])
-        );
-        assert_eq!(without(Row::LongBuffer, 2 * BYTES - 1), Ok(vec![]));
-        assert_eq!(
-            without(Row::LongBuffer, 2 * BYTES),
-            Ok(vec![Row::LongBuffer])
-        );
+        let many = Row::ManyOperations;
+        assert_eq!(with(many, 3 * 63 - 1), Ok(vec![]));
+        assert_eq!(with(many, 3 * 63), Ok(vec![many]));
+        let long = Row::LongBuffer;
+        assert_eq!(with(long, 2 * BYTES - 1), Ok(vec![]));
+        assert_eq!(with(long, 2 * BYTES), Ok(vec![long]));
         let mut case = transaction(&[0, 256]).zeros(256).answers(&[TXE, 0]);
         assert_eq!(rows(&case), Ok(vec![]));
         case.answers.push(TCR);
         assert_eq!(rows(&case), Ok(vec![Row::LongOperation]));
+    }
+
+    #[test]
+    fn rows_come_together() {
+        let mut operations = [READ; OPERATIONS + 3];
+        operations[OPERATIONS + 2] = 256;
+        let answers = [TXE, 0, TCR].repeat(OPERATIONS + 1);
+        let case = transaction(&operations).zeros(256).answers(&answers);
+        let case = case.asking(|asked| asked.address = 0xFF);
+        assert_eq!(
+            rows(&case.clone().answers(&[TXE, 0])),
+            Ok(vec![Row::SevenBitAddress, Row::ManyOperations])
+        );
+        assert_eq!(
+            rows(&case.answers(&[TXE, 0, TC])),
+            Ok(vec![
+                Row::SevenBitAddress,
+                Row::ManyOperations,
+                Row::LongOperation
+            ])
+        );
+    }
+
+    #[test]
+    fn long_buffers_in_every_transfer() {
+        let mut random = Random::new(1);
+        for number in [9, 10, 11, 12, 25, 26, 27, 28] {
+            for length in [BYTES + 1, BYTES + 300] {
+                for moved in [BYTES - 1, BYTES, BYTES + 256] {
+                    let mut case = call(number).bytes(&counted(length));
+                    let choices = Answers::to_the_end(number, length, random.split());
+                    case.answers = generate::chosen(&case, choices.moving(moved));
+                    let expected = if moved < BYTES {
+                        vec![]
+                    } else {
+                        vec![Row::LongBuffer]
+                    };
+                    assert_eq!(
+                        rows(&case),
+                        Ok(expected),
+                        "call {number}, {length}, {moved}"
+                    );
+                }
+            }
+        }
     }
 }

@@ -13,17 +13,18 @@ use crate::calls::outside::Row;
 
 /// The calls of a target that move bytes, and those of them that put bytes out.
 pub const TRANSFERS: [u32; 8] = [9, 10, 11, 12, 25, 26, 27, 28];
-const TRANSMISSIONS: [u32; 4] = [10, 12, 26, 28];
+pub const TRANSMISSIONS: [u32; 4] = [10, 12, 26, 28];
 
-/// A buffer is long if it has more bytes than three blocks.
+/// A buffer is long if it has more bytes than three blocks; and how many zeros are many.
 const LONG: usize = 765;
+const ZEROS: usize = 1_000;
 
 #[derive(Clone, Copy, Debug, PartialEq, Eq, PartialOrd, Ord)]
 enum Kind {
     /// A call moved all bytes of a long buffer and counted them.
     Full(u32),
-    /// And it put out two zeros or more after them, so that the count was held at the length.
-    Held(u32),
+    /// And it put out many zeros after them.
+    Zeros(u32),
     Polled(u32, Wait),
     Refused(Row),
 }
@@ -31,10 +32,10 @@ enum Kind {
 impl Kind {
     fn all() -> Vec<Kind> {
         let full = TRANSFERS.map(Kind::Full);
-        let held = TRANSMISSIONS.map(Kind::Held);
+        let zeros = TRANSMISSIONS.map(Kind::Zeros);
         let polled = WAITS.map(|(call, wait)| Kind::Polled(call, wait));
         let refused = Row::ALL.map(Kind::Refused);
-        [&full[..], &held, &polled, &refused].concat()
+        [&full[..], &zeros, &polled, &refused].concat()
     }
 }
 
@@ -42,11 +43,11 @@ impl fmt::Display for Kind {
     fn fmt(&self, f: &mut fmt::Formatter) -> fmt::Result {
         match self {
             Kind::Full(call) => write!(f, "call {call}: full buffers over {LONG} bytes"),
-            Kind::Held(call) => write!(f, "call {call}: such buffers and two zeros or more"),
+            Kind::Zeros(call) => write!(f, "call {call}: such buffers and {ZEROS} zeros"),
             Kind::Polled(call, wait) => {
                 write!(f, "call {call}: long polls for {}", wait.words())
             }
-            Kind::Refused(row) => write!(f, "refused, but the Rust: {}", row.words()),
+            Kind::Refused(row) => write!(f, "refused calls, of the Rust: {}", row.words()),
         }
     }
 }
@@ -70,8 +71,8 @@ impl Kinds {
             self.add(Kind::Full(call));
             let before_flush = log.iter().take_while(|&&it| it != [WRITTEN + ICR, NACKF]);
             let sent = before_flush.filter(|it| it[0] == WRITTEN + TXDR);
-            if sent.count() >= length + 2 {
-                self.add(Kind::Held(call));
+            if sent.count() >= length + ZEROS {
+                self.add(Kind::Zeros(call));
             }
         }
     }
@@ -92,7 +93,16 @@ impl Kinds {
 
     /// Whether every kind of run occurred.
     pub fn all_reached(&self) -> bool {
-        Kind::all().into_iter().all(|kind| self.occurred(kind) > 0)
+        self.missing().next().is_none()
+    }
+
+    pub fn print_missing(&self) {
+        self.missing().for_each(|kind| println!("runs: no {kind}"));
+    }
+
+    fn missing(&self) -> impl Iterator<Item = Kind> + '_ {
+        let kinds = Kind::all().into_iter();
+        kinds.filter(|&kind| self.occurred(kind) == 0)
     }
 }
 
@@ -121,7 +131,8 @@ mod tests {
         let writes = |zeros: usize| call(10).bytes(&counted(766)).asks_for(766 + zeros).nacks();
         assert_eq!(kinds(&writes(0)), []);
         assert_eq!(kinds(&writes(1)), [Kind::Full(10)]);
-        assert_eq!(kinds(&writes(2)), [Kind::Full(10), Kind::Held(10)]);
+        let zeros = writes(ZEROS);
+        assert_eq!(kinds(&zeros), [Kind::Full(10), Kind::Zeros(10)]);
     }
 
     #[test]
