@@ -2,21 +2,22 @@
 -- section "Bench" prints; with it some runs of target calls whose logs were written out by hand. Assumes nothing.
 use Prim.Native.Nat.{ℕ}
 use mathlib.Core.Path.{_≡_, refl}
-use mathlib.Core.Bool.{false}
 use mathlib.Core.List.{List, [], _∷_, _++_, map}
 use lib.ListN.{length, replicate}
 use Rattle.fields.specs.Field.{bitsAt, withBits, getOf, putOf}
 use Rattle.timing.proofs.Cases.{Question, Answer, Case, ask, cases}
 use Rattle.timing.specs.Bands.{timingOf, bandOf, inBandOf, equalAt, doubleAt}
 use Rattle.timing.specs.Timingr.{unpackOf}
-use Rattle.calls.specs.Calls.{Request, call, kinds, manual, none}
+use Rattle.calls.specs.Calls.{Request, call, kinds, manual}
 use Rattle.calls.specs.Pieces.{piecesFor, piecesOf}
 use Rattle.calls.specs.Run.{Uncut, wordsOf, uncutOf}
 use Rattle.calls.specs.Steps.{accessOf, afterOf, beginOf}
 use Rattle.calls.specs.Words.{cr2Of, alterOf}
+use Rattle.calls.specs.declared.AddressMode.the-variants.{AddressMode7bit}
 use Rattle.calls.specs.declared.Ack.the-variants.{AutoAck, ManualAck}
 use Rattle.calls.specs.declared.Call.{Call}
 use Rattle.calls.specs.declared.Call.the-variants.{Transaction, Write, WaitForTargetRead}
+use Rattle.calls.specs.declared.Configuration.the-variants.{Unconfigured}
 use Rattle.calls.specs.declared.Description.{Description}
 use Rattle.calls.specs.declared.Outcome.{Outcome}
 use Rattle.calls.specs.declared.Outcome.the-variants.{Done}
@@ -45,9 +46,8 @@ addressed a =
       address = a;
       listen = 0;
       timing = record { 0 = 0 };
-      config = record { own = 0; secondary = none; mask = none; ten = false };
-      ten = false;
-      configured = false;
+      config = Unconfigured;
+      mode = AddressMode7bit;
     }
 
 abbrev came : Uncut → Came

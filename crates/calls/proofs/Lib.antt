@@ -15,3 +15,4 @@ pub mod Demand
 pub mod Joined
 pub mod Ends
 pub mod Cases
+pub mod Setters
