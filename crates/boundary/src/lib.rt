@@ -5,6 +5,7 @@ ghost use lib.ListN.{length};
 ghost use Rattle.timing.specs.Bands.{timingOf};
 ghost use Rattle.timing.specs.Refusals.{numberOf};
 ghost use Rattle.timing.specs.Timingr.{packOf, unpackOf};
+ghost use Rattle.words.specs.Words.{Below};
 ghost use Rattle.boundary.specs.Calls.{descriptionOf, operationsIn, asBegin, beginIn, accessIn, asFinal, finalIn};
 ghost use Rattle.boundary.specs.Timing.{answer, packedAnswer, packedTimed, timedAnswer, timingFrom, fieldsFrom};
 use call::AccessAnswer;
@@ -130,7 +131,8 @@ pub extern "C" fn huskerivory_begin(
     call::begin(d, &ops[..n], buffer, saved)
 }
 
-// Advances a call with answers, and leaves its accesses in the log.
+// Advances a call with answers, and leaves its accesses in the log. That a slice of bytes holds bytes is said too, so that what
+// holds of lists of advances has nothing to ask.
 #[no_mangle]
 pub extern "C" fn huskerivory_advance(
     description: CallDescription,
@@ -141,6 +143,7 @@ pub extern "C" fn huskerivory_advance(
     log: &mut [u8],
 ) -> AdvanceAnswer
     ensures { λ r. ⌜ asFinal r (now (saved .exit)) (now (buffer .exit)) (now (log .exit)) ≡ finalIn (descriptionOf description) (operationsIn (now (operations .entry))) (now (saved .entry)) (now (buffer .entry)) (now (answers .entry)) (now (log .entry)) ⌝ }
+    ensures bytes { λ _. ⌜ Below 256 (now (buffer .entry)) × Below 256 (now (answers .entry)) ⌝ }
 {
     let d = call::describe(description);
     let mut ops = list();

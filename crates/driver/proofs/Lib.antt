@@ -2,4 +2,5 @@ pub mod Pieces
 pub mod Accepts
 pub mod Loop
 pub mod Shortcuts
+pub mod CameBack
 pub mod Demand

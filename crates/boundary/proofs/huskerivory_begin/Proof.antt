@@ -19,10 +19,9 @@ huskerivory-begin-spec =
     (λ c κs. search needs)
     (λ c. search needs)
     (λ c.
-    let read = c .before .before .before .before .before .before in
-    let came = read .before .before .before .before .before .before .before in
-    c .before .before .begin .ensures
-    ∙ rw (
-      listed (came .args .operations .now) _ _ _ (read .before .before .list .ensures) (read .decode .ensures),
-      read .before .before .before .describe .ensures,
-    )))
+    let begun = c .before .before in
+    let decoded = begun .before .before .before .before in
+    let made = decoded .before .before in
+    let described = made .before in
+    let start = described .before .before .before .before in
+    begun .begin .ensures ∙ rw (listed (start .args .operations .now) _ _ _ (made .list .ensures) (decoded .decode .ensures), described .describe .ensures)))

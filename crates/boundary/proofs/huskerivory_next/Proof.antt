@@ -18,10 +18,8 @@ huskerivory-next-spec =
     (λ c. counted _ _ _ _ (c .before .before .decode .ensures))
     (λ c κs. search needs)
     (λ c.
-    let read = c .before .before .before in
-    let came = read .before .before .before .before .before .before .before in
-    c .next .ensures
-    ∙ rw (
-      listed (came .args .operations .now) _ _ _ (read .before .before .list .ensures) (read .decode .ensures),
-      read .before .before .before .describe .ensures,
-    )))
+    let decoded = c .before .before .before in
+    let made = decoded .before .before in
+    let described = made .before in
+    let start = described .before .before .before .before in
+    c .next .ensures ∙ rw (listed (start .args .operations .now) _ _ _ (made .list .ensures) (decoded .decode .ensures), described .describe .ensures)))
