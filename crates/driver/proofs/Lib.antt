@@ -3,3 +3,5 @@ pub mod Accepts
 pub mod Loop
 pub mod Shortcuts
 pub mod Demand
+pub mod Restated
+pub mod Worked
