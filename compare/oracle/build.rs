@@ -9,7 +9,7 @@ const DRIVER: [&str; 4] = ["macros.rs", "i2c.rs", "i2c/config.rs", "i2c/hal.rs"]
 const MODULES: &str = "
 #[macro_use]
 mod macros;
-#[allow(dead_code, clippy::all)] // not ours to change, and document 01 does not take it all
+#[allow(dead_code, clippy::all, rustdoc::all)] // not ours to change, and document 01 does not take it all
 mod i2c;
 ";
 

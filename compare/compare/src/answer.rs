@@ -76,12 +76,16 @@ impl Differences {
         describe: impl FnOnce(T, T) -> String,
     ) {
         if expected != given {
-            self.count += 1;
-            let place = self.smallest.entry(size);
-            place.or_insert_with(|| describe(expected, given));
-            if self.smallest.len() > Self::SHOWN {
-                self.smallest.pop_last();
-            }
+            self.add(size, describe(expected, given));
+        }
+    }
+
+    /// Adds a difference that an input of this size has.
+    pub fn add(&mut self, size: u64, told: String) {
+        self.count += 1;
+        self.smallest.entry(size).or_insert(told);
+        if self.smallest.len() > Self::SHOWN {
+            self.smallest.pop_last();
         }
     }
 

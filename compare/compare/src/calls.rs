@@ -1,11 +1,12 @@
 //! Described calls: made up, run by the Rust, made smaller, told and counted.
 
-mod answers;
+pub mod answers;
 pub mod build;
 pub mod case;
 pub mod chip;
 pub mod expected;
 pub mod generate;
+pub mod outside;
 pub mod run;
 pub mod sample;
 pub mod shrink;

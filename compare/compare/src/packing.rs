@@ -70,9 +70,21 @@ fn expected(fields: Fields) -> Answer {
     }
 }
 
+/// What the driver makes of any fields: each shifted to its place, and the bits above the word lost.
+fn overlaid(f: Fields) -> u32 {
+    let places = [(f.presc, 28), (f.scldel, 20), (f.sdadel, 16), (f.sclh, 8)];
+    let shifted = places.map(|(field, place)| (u64::from(field) << place) as u32);
+    shifted
+        .into_iter()
+        .fold(u32::from(f.scll), |word, it| word | it)
+}
+
 fn compare_fields(differences: &mut Differences, fields: Fields) {
     let packed = rattle::pack(fields);
     let size = u64::from(pack(fields));
+    differences.compare(size, overlaid(fields), pack(fields), |expected, given| {
+        format!("packing {fields:?}: {expected:X} expected of the Rust, but {given:X}")
+    });
     differences.compare(size, expected(fields), packed, |expected, given| {
         format!("packing {fields:?}: {expected:X?} expected, Rattle {given:X?}")
     });

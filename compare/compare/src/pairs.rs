@@ -68,6 +68,12 @@ pub fn edges() -> Vec<Pair> {
         let clocks = with_neighbours(exact.collect());
         pairs.extend(clocks.iter().map(|&clock| (clock, frequency)));
     }
+    // The ratios at which the Rust's prescaler does not fit its byte, at clocks that are refused.
+    for frequency in [100_001, 150_000] {
+        let steps = [254, 255, 256, 257, 270, 271, 272].map(|step| 96 * step * frequency);
+        let clocks = with_neighbours(steps.to_vec());
+        pairs.extend(clocks.iter().map(|&clock| (clock + frequency, frequency)));
+    }
     for &clock in &clocks {
         let exact = ratios.iter().map(|ratio| clock / ratio);
         let frequencies = with_neighbours(exact.collect());

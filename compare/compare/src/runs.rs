@@ -1,12 +1,15 @@
 //! `compare runs`: the Rust driver and the Rattle driver, through its C boundary, on the same inputs
 //! in one process, uncut and cut.
 //!
-//! After a fixed sample of calls come three parts: every sequence of answers up to a length
-//! ([`walk`]), every state of small and large calls ([`graph`]), and random calls.
+//! After a fixed sample of calls come four parts: long calls ([`long`]), every sequence of answers up
+//! to a length ([`walk`]), every state of small and large calls ([`graph`]), and random calls.
 
 mod check;
 mod cut;
 mod graph;
+mod kinds;
+mod long;
+mod polls;
 mod progress;
 mod room;
 mod show;
@@ -18,12 +21,16 @@ mod wrong;
 use std::io;
 use std::time::Duration;
 
+use oracle::WAYS;
+
 use crate::calls::case::Case;
 use crate::calls::generate;
+use crate::calls::outside::Row;
 use crate::calls::sample;
 use crate::calls::tally::Tally;
 use crate::random::Random;
 use check::{Checker, Ended, Input};
+use kinds::Kinds;
 use progress::{Progress, Stop};
 use walk::Walk;
 
@@ -38,10 +45,10 @@ const CUTS: usize = 100;
 
 /// How much is compared.
 pub enum Limit {
-    /// Sequences of answers, all states, and so many random calls.
+    /// Long calls, sequences of answers, all states, and so many random calls.
     Runs(u64),
-    /// A third of the time for sequences, as long as it allows, a third at most for all states, and
-    /// the rest for random calls.
+    /// A quarter of the time at most for long calls, a quarter for sequences, as long as it allows, a
+    /// quarter at most for all states, and the rest for random calls.
     Seconds(u64),
 }
 
@@ -50,6 +57,9 @@ pub struct Comparison {
     checker: Checker,
     progress: Progress,
     tally: Tally,
+    kinds: Kinds,
+    /// Whether the long calls were gone through, so that no kind of run may be missing.
+    long: bool,
     random: Random,
 }
 
@@ -64,11 +74,14 @@ impl Comparison {
         let call = input.asked.call;
         self.tally
             .add(call, ended.report as usize, ended.value, ended.panics);
+        let (log, _) = self.checker.last();
+        self.kinds.count(input, &ended, log);
         self.progress.count()?;
         Ok(ended)
     }
 
-    /// The fixed sample of calls, each cut in several ways.
+    /// The fixed sample of calls, each cut in several ways; those that configure a target by the Rust's
+    /// setters in every way; and an example of everything that the Rust does with refused ones.
     fn sample(&mut self) -> Result<(), Stop> {
         self.progress.part = "the sample".to_string();
         let calls = sample::calls();
@@ -76,11 +89,26 @@ impl Comparison {
             for _ in 0..CUTS {
                 self.check(case.into(), true)?;
             }
+            if matches!(case.asked.call, 1..=3) {
+                for way in 0..WAYS {
+                    let case = case.clone().asking(|asked| asked.way = way);
+                    self.check((&case).into(), false)?;
+                }
+            }
+        }
+        for row in Row::ALL {
+            self.check((&row.example()).into(), true)?;
         }
         println!(
             "runs: {} calls of the sample, {CUTS} times each",
             calls.len()
         );
+        Ok(())
+    }
+
+    fn long(&mut self) -> Result<(), Stop> {
+        long::all(self)?;
+        self.long = true;
         Ok(())
     }
 
@@ -140,6 +168,7 @@ impl Comparison {
         match limit {
             Limit::Runs(most) => {
                 self.sample()?;
+                self.long()?;
                 self.sequences(SEQUENCES)?;
                 self.states()?;
                 self.random(most)
@@ -147,8 +176,9 @@ impl Comparison {
             Limit::Seconds(seconds) => {
                 let time = Duration::from_secs(seconds);
                 self.sample()?;
-                self.until(time / 3, |it| it.sequences(u64::MAX))?;
-                self.until(time * 2 / 3, Self::states)?;
+                self.until(time / 4, Self::long)?;
+                self.until(time / 2, |it| it.sequences(u64::MAX))?;
+                self.until(time * 3 / 4, Self::states)?;
                 self.until(time, |it| it.random(u64::MAX))
             }
         }
@@ -180,6 +210,8 @@ pub fn compare(limit: Limit, seed: u64) -> io::Result<bool> {
         checker: Checker::default(),
         progress: Progress::new(),
         tally: Tally::default(),
+        kinds: Kinds::default(),
+        long: false,
         random: Random::new(seed),
     };
     let differences = match comparison.all(limit) {
@@ -190,13 +222,20 @@ pub fn compare(limit: Limit, seed: u64) -> io::Result<bool> {
         Ok(()) | Err(Stop::TimeIsUp) => 0,
     };
     let Comparison {
-        progress, tally, ..
+        progress,
+        tally,
+        kinds,
+        long,
+        ..
     } = comparison;
     tally.print();
+    kinds.print();
+    let reached = tally.all_reached() && (!long || kinds.all_reached());
     let short = progress.runs < 1_000_000;
-    let all = short || differences > 0 || tally.all_reached();
+    let all = short || differences > 0 || reached;
     if !all {
-        println!("runs: a call, an outcome, a refusal or the known difference was not reached");
+        println!("runs: a call, an outcome, a refusal or a kind of run was not reached");
+        kinds.print_missing();
     }
     println!(
         "runs: {} runs compared, {differences} differences",

@@ -241,8 +241,9 @@ impl<'a> Rust<'a> {
     fn new(case: &'a Case) -> Self {
         let mut registers = RegisterBlock::default();
         registers.load(&case.answers);
+        let description = case.asked.description(case.buffer.len());
         Rust {
-            description: case.asked.description(),
+            description: description.expect("the driver can express a workload"),
             registers,
             buffer: case.buffer.clone(),
         }

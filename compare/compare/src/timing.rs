@@ -1,22 +1,30 @@
 //! `compare timing`: the driver's timing rule beside Rattle's.
 
+mod above;
+
 use oracle::{calc_timing, pack};
 
 use crate::answer::{Answer, Differences, Refusal, Shown};
 use crate::pairs::{self, Pair, BANDS, MOST_CLOCK};
 use crate::random::Random;
 use crate::rattle;
+use above::Row;
 
 /// What the driver gives, its panics read as refusals. It has no check of the highest clock, so
 /// document 01 decides above that.
 pub fn expected((clock, frequency): Pair) -> Answer {
-    if clock > MOST_CLOCK && frequency != 0 {
+    if is_above((clock, frequency)) {
         return Err(Refusal(2));
     }
     calc_timing(clock, frequency).map(pack).map_err(|panic| {
         let refusal = panic.kind.refusal();
         Refusal(refusal.unwrap_or_else(|| panic!("{clock} {frequency}: {}", panic.message)))
     })
+}
+
+/// Whether the clock is refused as 2.
+fn is_above((clock, frequency): Pair) -> bool {
+    clock > MOST_CLOCK && frequency != 0
 }
 
 /// Compares all edges, and random pairs until there are `least`. True if all went well.
@@ -37,6 +45,12 @@ pub fn compare(least: u64, seed: u64) -> bool {
         let expected = expected(pair);
         tally.count(frequency, expected);
         let size = u64::from(clock) << 32 | u64::from(frequency);
+        if is_above(pair) {
+            match above::row(pair) {
+                Ok(row) => tally.above[row as usize] += 1,
+                Err(told) => differences.add(size, told),
+            }
+        }
         let given = rattle::timing(clock, frequency);
         differences.compare(size, expected, given, |expected, given| {
             let (expected, given) = (Shown(expected), Shown(given));
@@ -59,15 +73,19 @@ pub fn compare(least: u64, seed: u64) -> bool {
     tally.all_reached() && differences.count() == 0
 }
 
-/// How many pairs each band has, by refusal; refusal 0 stands for an accepted one.
 #[derive(Default)]
-struct Tally([[u64; 7]; BANDS.len()]);
+struct Tally {
+    /// How many pairs each band has, by refusal; refusal 0 stands for an accepted one.
+    pairs: [[u64; 7]; BANDS.len()],
+    /// How many pairs above the highest clock each row has.
+    above: [u64; Row::ALL.len()],
+}
 
 impl Tally {
     fn count(&mut self, frequency: u32, answer: Answer) {
         let band = BANDS.partition_point(|&highest| highest < frequency);
         let refusal = answer.err().map_or(0, |refusal| refusal.0);
-        self.0[band][refusal as usize] += 1;
+        self.pairs[band][refusal as usize] += 1;
     }
 
     fn print(&self) {
@@ -76,22 +94,27 @@ impl Tally {
             print!("{:>13}", format!("{refusal} {}", Refusal(refusal).words()));
         }
         println!();
-        for (highest, counts) in BANDS.iter().zip(self.0) {
+        for (highest, counts) in BANDS.iter().zip(self.pairs) {
             print!("{highest:>16}");
             for count in counts {
                 print!("{count:>13}");
             }
             println!();
         }
+        for (row, count) in Row::ALL.iter().zip(self.above) {
+            println!("above {MOST_CLOCK} Hz the Rust {}: {count}", row.words());
+        }
     }
 
-    /// Whether every band has an accepted pair and every refusal was given.
+    /// Whether every band has an accepted pair, every refusal was given, and the Rust did all that it
+    /// does above the highest clock.
     fn all_reached(&self) -> bool {
-        let bands = self.0.iter().all(|counts| counts[0] > 0);
-        let refusals = (1..=6).all(|refusal| self.0.iter().any(|counts| counts[refusal] > 0));
-        if !(bands && refusals) {
-            println!("timing: a band or a refusal was not reached");
+        let bands = self.pairs.iter().all(|counts| counts[0] > 0);
+        let refused = |refusal: usize| self.pairs.iter().any(|counts| counts[refusal] > 0);
+        let reached = bands && (1..=6).all(refused) && self.above.iter().all(|&count| count > 0);
+        if !reached {
+            println!("timing: a band, a refusal or a row above the highest clock was not reached");
         }
-        bands && refusals
+        reached
     }
 }

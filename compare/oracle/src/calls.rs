@@ -28,7 +28,13 @@ pub struct Configuration {
     pub ten_bit: bool,
     pub secondary_address: Option<u8>,
     pub mask: Option<u8>,
+    /// In which of [`WAYS`] the driver's own configuration is built. Nothing may depend on it.
+    pub way: u32,
 }
+
+/// The driver's configuration has four setters, which can be called in 24 orders: either those
+/// alone that say something new, or all of them, on a configuration of another address.
+pub const WAYS: u32 = 48;
 
 /// How a call came out: document 01's outcomes but `refused`, and the driver's own panics.
 #[derive(Clone, Debug, PartialEq, Eq)]

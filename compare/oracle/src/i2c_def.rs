@@ -3,7 +3,7 @@
 
 use super::*;
 use crate::rcc::I2c1;
-use crate::{Configuration, Description, Fields, Outcome};
+use crate::{Configuration, Description, Fields, Outcome, WAYS};
 use embedded_hal::i2c::{self, Operation};
 use i2c1::RegisterBlock;
 
@@ -73,26 +73,48 @@ fn create(i2c: I2C1, description: &Description) {
 }
 
 fn configuration(description: &Description) -> TargetConfig {
-    let Configuration {
-        own_address,
-        ten_bit,
-        secondary_address,
-        mask,
-    } = description
+    let wanted = description
         .configuration
         .expect("calls 2 and 3 have a configuration");
-    let mut config = TargetConfig::new(own_address);
-    if ten_bit {
-        config = config.own_address_mode(AddressMode::AddressMode10bit);
-    }
-    if let Some(secondary_address) = secondary_address {
-        config = config.secondary_address(secondary_address);
-    }
-    if let Some(mask) = mask {
-        config = config.secondary_address_mask_bits(mask);
+    let all = wanted.way >= WAYS / 2;
+    let other = !wanted.own_address;
+    let mut config = TargetConfig::new(if all { other } else { wanted.own_address });
+    let mut setters = SETTERS.to_vec();
+    let mut order = wanted.way;
+    while !setters.is_empty() {
+        let left = setters.len() as u32;
+        let setter = setters.remove((order % left) as usize);
+        order /= left;
+        config = setter(config, &wanted, all);
     }
     config
 }
+
+/// Sets one thing; of what a configuration has from the first on, only where all is to be set.
+type Setter = fn(TargetConfig, &Configuration, bool) -> TargetConfig;
+
+const SETTERS: [Setter; 4] = [
+    |config, wanted, all| {
+        if all {
+            config.own_address(wanted.own_address)
+        } else {
+            config
+        }
+    },
+    |config, wanted, all| match (wanted.ten_bit, all) {
+        (true, _) => config.own_address_mode(AddressMode::AddressMode10bit),
+        (false, true) => config.own_address_mode(AddressMode::AddressMode7bit),
+        (false, false) => config,
+    },
+    |config, wanted, _| match wanted.secondary_address {
+        Some(address) => config.secondary_address(address),
+        None => config,
+    },
+    |config, wanted, _| match wanted.mask {
+        Some(mask) => config.secondary_address_mask_bits(mask),
+        None => config,
+    },
+];
 
 fn listen_event(kind: u32) -> TargetListenEvent {
     match kind {

@@ -1,4 +1,5 @@
-//! Document 01's refusals of a call, read from its table alone: the driver has no such checks.
+//! Document 01's refusals of a call, read from its table alone: the driver has no such checks. And
+//! which calls the driver's types can express, refused or not.
 
 use crate::{Configuration, Description};
 
@@ -17,6 +18,8 @@ pub struct Asked {
     pub own_ten_bit: bool,
     pub secondary_address: Option<u32>,
     pub mask: Option<u32>,
+    /// In which of the ways of [`Configuration`] the driver's own one is built.
+    pub way: u32,
 }
 
 impl Asked {
@@ -59,9 +62,13 @@ impl Asked {
     }
 
     fn is_list_wrong(&self, length: usize) -> bool {
-        self.operations.len() > 64
-            || self.operations.iter().any(|word| word >> 17 != 0)
-            || self.lengths().sum::<usize>() != length
+        self.operations.len() > 64 || !self.is_sliced(length)
+    }
+
+    /// Whether the operations have nothing but a length and a direction and take the whole buffer.
+    fn is_sliced(&self, length: usize) -> bool {
+        self.operations.iter().all(|word| word >> 17 == 0)
+            && self.lengths().sum::<usize>() == length
     }
 
     fn lengths(&self) -> impl Iterator<Item = usize> + '_ {
@@ -72,23 +79,41 @@ impl Asked {
         self.call != 1 || self.configured
     }
 
-    /// The call in the driver's types. Only for one that is not refused: other words may be cut.
-    pub fn description(&self) -> Description<'_> {
-        let configuration = Configuration {
-            own_address: self.own_address as u16,
-            ten_bit: self.own_ten_bit,
-            secondary_address: self.secondary_address.map(|it| it as u8),
-            mask: self.mask.map(|it| it as u8),
+    /// The call in the driver's types, where a buffer of this length is lent. They cannot express
+    /// numbers that are not listed or too wide for them, and lists that are no slices of the buffer.
+    pub fn description(&self, length: usize) -> Option<Description<'_>> {
+        if !self.is_listed() || self.call == 7 && !self.is_sliced(length) {
+            return None;
+        }
+        let address = match (self.call, self.ten_bit) {
+            (7, false) => u8::try_from(self.address).ok()?.into(),
+            (7, true) => u16::try_from(self.address).ok()?,
+            _ => 0,
         };
-        Description {
+        let configuration = match self.call {
+            1..=3 if self.is_configured() => Some(self.configuration()?),
+            _ => None,
+        };
+        Some(Description {
             call: self.call,
-            address: self.address as u16,
+            address,
             ten_bit: self.ten_bit,
             operations: &self.operations,
             listen: self.listen,
             timingr: self.timingr,
-            configuration: self.is_configured().then_some(configuration),
-        }
+            configuration,
+        })
+    }
+
+    fn configuration(&self) -> Option<Configuration> {
+        let byte = |word: Option<u32>| word.map(u8::try_from).transpose().ok();
+        Some(Configuration {
+            own_address: self.own_address.try_into().ok()?,
+            ten_bit: self.own_ten_bit,
+            secondary_address: byte(self.secondary_address)?,
+            mask: byte(self.mask)?,
+            way: self.way,
+        })
     }
 }
 
@@ -170,5 +195,38 @@ mod tests {
             }
         }
         assert_eq!(call(25).refusal(65_535), None);
+    }
+
+    #[test]
+    fn the_driver_expresses_every_accepted_call_and_some_refused_ones() {
+        let expressed = |asked: &Asked, length| asked.description(length).is_some();
+        for number in 0..40 {
+            assert_eq!(expressed(&call(number), 0), call(number).is_listed());
+        }
+        let listening = Asked {
+            listen: 3,
+            ..call(4)
+        };
+        assert!(!expressed(&listening, 0));
+        assert!(expressed(&transaction(255, false, &[]), 0));
+        assert!(!expressed(&transaction(256, false, &[]), 0));
+        assert!(expressed(&transaction(65_535, true, &[]), 0));
+        assert!(!expressed(&transaction(65_536, true, &[]), 0));
+        assert!(expressed(&transaction(0, false, &[1; 65]), 65));
+        assert!(expressed(&transaction(0, false, &[0xFFFF]), 65_535));
+        assert!(!expressed(&transaction(0, false, &[1]), 2));
+        assert!(!expressed(&transaction(0, false, &[0x2_0000]), 0));
+        let configured = |own_address, secondary, mask| Asked {
+            own_address,
+            secondary_address: Some(secondary),
+            mask: Some(mask),
+            ..call(3)
+        };
+        assert!(expressed(&configured(65_535, 255, 255), 0));
+        assert!(!expressed(&configured(65_536, 0, 0), 0));
+        assert!(!expressed(&configured(0, 256, 0), 0));
+        assert!(!expressed(&configured(0, 0, 256), 0));
+        assert!(expressed(&call(9), 0));
+        assert!(expressed(&call(9), 65_536));
     }
 }

@@ -1,8 +1,9 @@
 //! One or more runs of every call, written out from document 01 and RM0492.
 //!
-//! A log tells the answers too: they are the values of its reads.
+//! A log tells the answers too: they are the values of its reads. At the end stands what the driver
+//! does where document 01 refuses or counts otherwise: the rows of docs/DIFFERENCES.md.
 
-use oracle::{run, Access, Configuration, Description, Outcome, PanicKind};
+use oracle::{run, Access, Configuration, Description, Outcome, PanicKind, WAYS};
 use Outcome::*;
 
 const CR1: u32 = 0x00;
@@ -41,22 +42,28 @@ fn is_read(access: &Access) -> bool {
     access[0] < 0x100
 }
 
-/// Runs the call over the log's answers and one more, which must stay unused, and holds outcome,
-/// value and log to what is written; then over every shorter list of answers, where the run must
-/// wait just before the read that finds none.
+/// Runs the call over the log's answers, as `check_whole` does, and over every shorter list of
+/// answers, where the run must wait just before the read that finds none.
 fn check(description: Description, buffer: &mut [u8], log: &[Access], ends: (Outcome, u32)) {
     let reads: Vec<usize> = (0..log.len()).filter(|&i| is_read(&log[i])).collect();
-    let mut answers: Vec<u32> = reads.iter().map(|&i| log[i][1]).collect();
-    answers.push(0xFFFF_FFFF);
-
+    let answers: Vec<u32> = reads.iter().map(|&i| log[i][1]).collect();
     for (used, &place) in reads.iter().enumerate() {
         let cut = run(&description, &mut buffer.to_vec(), &answers[..used]);
         assert_eq!((cut.outcome, cut.value), (Waiting, 0));
         assert_eq!((cut.used, &cut.log[..]), (used, &log[..place]));
     }
+    check_whole(description, buffer, log, ends);
+}
 
+/// Runs the call over the log's answers and one more, which must stay unused, and holds outcome,
+/// value and log to what is written.
+fn check_whole(description: Description, buffer: &mut [u8], log: &[Access], ends: (Outcome, u32)) {
+    let reads = log.iter().filter(|access| is_read(access));
+    let mut answers: Vec<u32> = reads.map(|access| access[1]).collect();
+    let used = answers.len();
+    answers.push(0xFFFF_FFFF);
     let whole = run(&description, buffer, &answers);
-    assert_eq!((whole.used, &whole.log[..]), (reads.len(), log));
+    assert_eq!((whole.used, &whole.log[..]), (used, log));
     assert_eq!((whole.outcome, whole.value), ends);
 }
 
@@ -108,6 +115,7 @@ const TARGET: Configuration = Configuration {
     ten_bit: false,
     secondary_address: Some(0x21),
     mask: Some(2),
+    way: 0,
 };
 
 #[test]
@@ -188,6 +196,38 @@ fn call_3_in_both_modes() {
     };
     configure(unmasked, &[w(OAR1, 0x84), w(OAR2, 0x42)]);
     configure(TARGET, &[w(OAR1, 0x84), w(OAR2, 0x342)]);
+}
+
+#[test]
+fn the_configurations_setters_in_every_way() {
+    let alone = Configuration {
+        secondary_address: None,
+        mask: None,
+        ..TARGET
+    };
+    let ten_bit = Configuration {
+        own_address: 0x2A5,
+        ten_bit: true,
+        ..TARGET
+    };
+    let configurations: [(Configuration, &[Access]); 3] = [
+        (TARGET, &[w(OAR1, 0x84), w(OAR2, 0x342)]),
+        (alone, &[w(OAR1, 0x84)]),
+        (ten_bit, &[w(OAR1, 0x6A5), w(OAR2, 0x342)]),
+    ];
+    for way in 0..WAYS {
+        for (configuration, log) in configurations {
+            let description = Description {
+                call: 3,
+                configuration: Some(Configuration {
+                    way,
+                    ..configuration
+                }),
+                ..Default::default()
+            };
+            check(description, &mut [], log, (Done, 0));
+        }
+    }
 }
 
 #[test]
@@ -672,38 +712,178 @@ fn an_empty_buffer_panics_in_an_auto_transfer() {
     check_panic(auto(12), 0, &log(event | DIR), PanicKind::Empty);
 }
 
+/// Call 3 with this configuration writes these words.
+fn check_configuration(configuration: Configuration, log: &[Access]) {
+    let description = Description {
+        call: 3,
+        configuration: Some(configuration),
+        ..Default::default()
+    };
+    check(description, &mut [], log, (Done, 0));
+}
+
 #[test]
-fn a_mask_of_255_panics_and_other_wide_ones_are_cut() {
-    let masked = |mask| Description {
+fn a_mask_of_255_panics_beside_a_secondary_address() {
+    let description = Description {
         call: 3,
         configuration: Some(Configuration {
-            mask: Some(mask),
+            mask: Some(255),
             ..TARGET
         }),
         ..Default::default()
     };
-    check_panic(masked(255), 0, &[w(OAR1, 0x84)], PanicKind::Mask);
-    check(
-        masked(7),
-        &mut [],
-        &[w(OAR1, 0x84), w(OAR2, 0x42)],
-        (Done, 0),
-    );
+    check_panic(description, 0, &[w(OAR1, 0x84)], PanicKind::Mask);
 }
 
 #[test]
-fn wide_addresses_are_cut_to_their_fields() {
-    let description = Description {
-        call: 3,
-        configuration: Some(Configuration {
-            own_address: 0xFFFF,
-            secondary_address: Some(0xFF),
-            ..Default::default()
-        }),
+fn other_wide_masks_are_cut() {
+    for (mask, oar2) in [(7, 0x42), (8, 0x142), (254, 0x742)] {
+        let mask = Some(mask);
+        let log = [w(OAR1, 0x84), w(OAR2, oar2)];
+        check_configuration(Configuration { mask, ..TARGET }, &log);
+    }
+}
+
+#[test]
+fn a_mask_without_a_secondary_address_is_not_looked_at() {
+    for mask in [7, 255] {
+        let alone = Configuration {
+            secondary_address: None,
+            mask: Some(mask),
+            ..TARGET
+        };
+        check_configuration(alone, &[w(OAR1, 0x84)]);
+    }
+}
+
+#[test]
+fn wide_addresses_of_a_target_are_cut_to_their_fields() {
+    let own = |own_address, ten_bit| Configuration {
+        own_address,
+        ten_bit,
         ..Default::default()
     };
-    let log = [w(OAR1, 0x3FE), w(OAR2, 0xFE)];
+    check_configuration(own(0x80, false), &[w(OAR1, 0x100)]);
+    check_configuration(own(0xFFFF, false), &[w(OAR1, 0x3FE)]);
+    check_configuration(own(0x400, true), &[w(OAR1, 0x400)]);
+    check_configuration(own(0xFFFF, true), &[w(OAR1, 0x7FF)]);
+    for (address, oar2) in [(0x80, 0), (0xFF, 0xFE)] {
+        let secondary = Configuration {
+            secondary_address: Some(address),
+            ..Default::default()
+        };
+        check_configuration(secondary, &[w(OAR1, 0), w(OAR2, oar2)]);
+    }
+}
+
+#[test]
+fn wide_addresses_of_a_transaction_are_cut_to_sadd() {
+    for (address, ten_bit, control) in [
+        (0x80, false, 0x0201_2100),
+        (0xFF, false, 0x0201_21FE),
+        (0x400, true, 0x0201_2800),
+        (0xFFFF, true, 0x0201_2BFF),
+    ] {
+        let description = Description {
+            call: 7,
+            address,
+            ten_bit,
+            operations: &[1],
+            ..Default::default()
+        };
+        let log = [
+            w(CR2, control),
+            r(ISR, TXE),
+            r(CR2, 0),
+            r(ISR, TXIS),
+            w(TXDR, 0x12),
+            r(ISR, STOPF),
+            w(ICR, STOPF),
+        ];
+        check(description, &mut [0x12], &log, (Done, 0));
+    }
+}
+
+#[test]
+fn operations_after_the_64th_are_performed() {
+    let mut log = Vec::new();
+    for (control, ending) in [(0x0100_2000, TCR)]
+        .into_iter()
+        .chain([(0x0100_0000, TCR); 63])
+        .chain([(0x0200_0000, STOPF)])
+    {
+        log.extend([w(CR2, control), r(ISR, TXE), r(CR2, 0), r(ISR, ending)]);
+    }
+    log.push(w(ICR, STOPF));
+    let description = Description {
+        call: 7,
+        operations: &[0; 65],
+        ..Default::default()
+    };
     check(description, &mut [], &log, (Done, 0));
+}
+
+/// A transfer of a full buffer, in either mode, after its event.
+fn transfer(call: u32, length: usize) -> Vec<Access> {
+    let reads = matches!(call, 9 | 11 | 25 | 27);
+    let mut log = Vec::new();
+    let mut left = length;
+    while left > 0 {
+        let block = if call < 16 { left } else { left.min(255) };
+        if call >= 16 {
+            log.extend([r(CR2, 0), w(CR2, (block as u32) << 16)]);
+            log.extend((left == length).then_some(w(ICR, ADDR)));
+        }
+        log.extend(match reads {
+            true => [r(ISR, RXNE), r(RXDR, 0x71)].repeat(block),
+            false => [r(ISR, TXIS), w(TXDR, 0x12)].repeat(block),
+        });
+        left -= block;
+    }
+    if !reads {
+        log.extend([r(ISR, TXIS), w(TXDR, 0)]);
+        log.extend(NACK);
+    } else if call < 16 {
+        log.extend([r(CR2, 0), w(CR2, 0x8000)]);
+    }
+    log
+}
+
+#[test]
+fn buffers_of_over_65535_bytes_are_transferred() {
+    let length = 65_536;
+    for call in [9, 10, 11, 12, 25, 26, 27, 28] {
+        let direction = if matches!(call, 12 | 28) { DIR } else { 0 };
+        let mut log = match call {
+            11 | 12 | 27 | 28 => vec![r(ISR, ADDCODE_50 | direction | ADDR | TXE)],
+            _ => vec![],
+        };
+        match call {
+            11 | 12 => log.push(w(ICR, ADDR)),
+            27 => log.extend([MANUAL, MANUAL_WRITE].concat()),
+            28 => log.extend([&MANUAL[..], &[w(ICR, ADDR)]].concat()),
+            _ => {}
+        }
+        log.extend(transfer(call, length));
+        let description = Description {
+            call,
+            ..Default::default()
+        };
+        let mut buffer = vec![0x12; length];
+        check_whole(description, &mut buffer, &log, (Done, length as u32));
+        let byte = if matches!(call, 9 | 11 | 25 | 27) {
+            0x71
+        } else {
+            0x12
+        };
+        assert!(buffer.iter().all(|&it| it == byte));
+    }
+}
+
+#[test]
+fn a_buffer_is_not_looked_at_by_calls_without_bytes() {
+    let log = [r(CR2, 0x0100_0000), w(CR2, 0)];
+    check_bytes(14, &[9; 65_536], &log, (Done, 0), &[9; 65_536]);
 }
 
 #[test]

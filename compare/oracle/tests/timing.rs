@@ -34,11 +34,17 @@ fn every_panic_is_told_apart() {
 
 #[test]
 fn above_250_mhz_the_driver_has_no_check() {
+    assert_eq!(timing(250_000_001, 30_399), Ok(0xF0F7_FFFF));
+    assert_eq!(timing(250_000_001, 62_500_001), Err(Some(3)));
+    assert_eq!(timing(250_000_001, 1), Err(Some(5)));
     // The prescaler is cut to eight bits: it seems to fit, is too large, or has no successor.
     assert_eq!(timing(2_457_724_577, 100_001), Ok(0x00FF_FFFF));
     assert_eq!(timing(250_000_001, 100_001), Err(Some(5)));
     let panic = calc_timing(2_448_124_481, 100_001).unwrap_err();
     assert_eq!(panic.kind, PanicKind::ClockOver);
+    // So is a delay: SCLDEL would be 256.
+    assert_eq!(timing(1_028_000_000, 10_597_939), Ok(0x004F_1F3F));
+    assert_eq!(timing(1_027_999_999, 10_597_939), Ok(0x00FF_1F3F));
 }
 
 #[test]
@@ -55,9 +61,15 @@ fn packing_places_the_fields_and_unpacking_finds_them() {
 }
 
 #[test]
-fn wide_fields_run_into_each_other() {
-    let mut fields = unpack(0);
-    fields.sdadel = 0x1F;
-    assert_eq!(pack(fields), 0x001F_0000);
-    assert_eq!(unpack(pack(fields)).scldel, 1);
+fn wide_fields_run_into_each_other_or_are_lost() {
+    let with = |set: fn(&mut Fields)| {
+        let mut fields = unpack(0);
+        set(&mut fields);
+        pack(fields)
+    };
+    assert_eq!(with(|fields| fields.presc = 16), 0);
+    assert_eq!(with(|fields| fields.scldel = 16), 0x0100_0000);
+    let sdadel = with(|fields| fields.sdadel = 16);
+    assert_eq!(sdadel, 0x0010_0000);
+    assert_eq!(unpack(sdadel).scldel, 1);
 }

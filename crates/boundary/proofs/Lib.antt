@@ -1,2 +1,5 @@
 pub mod Awaited
 pub mod Answers
+pub mod Demand
+pub mod Restated
+pub mod RestatedDemand

@@ -3,7 +3,6 @@
 -- `compare bench-text` prints them (of the first of `transfers` with document 01's outcome, docs/DIFFERENCES.md). Assumes nothing.
 use Prim.Native.Nat.{ℕ, suc, _+_}
 use mathlib.Core.Path.{_≡_, refl}
-use mathlib.Core.Bool.{Bool, true, false}
 use mathlib.Core.List.{List, [], _∷_, _++_, map}
 use lib.ListN.{length, replicate}
 use Rattle.fields.specs.Field.{bitsAt, withBits, getOf, putOf}
@@ -17,7 +16,10 @@ use Rattle.calls.specs.Refusals.{lookupOf, verdictOf, checkOf, hasIn, ac
 use Rattle.calls.specs.Run.{Entry, Run, begunOf, advanceFrom, runOf}
 use Rattle.calls.specs.Steps.{accessOf, afterOf, beginOf}
 use Rattle.calls.specs.Words.{cr2Of, timingrOf, oar1Of, oar2Of, alterOf}
-use Rattle.calls.specs.declared.AddressMode.the-variants.{AddressMode10bit}
+use Rattle.calls.specs.declared.AddressMode.{AddressMode}
+use Rattle.calls.specs.declared.AddressMode.the-variants.{AddressMode7bit, AddressMode10bit}
+use Rattle.calls.specs.declared.Configuration.{Configuration}
+use Rattle.calls.specs.declared.Configuration.the-variants.{Unconfigured, Configured}
 use Rattle.calls.specs.declared.Description.{Description}
 use Rattle.calls.specs.declared.Outcome.{Outcome}
 use Rattle.calls.specs.declared.Outcome.the-variants.{Done, Bus, Arbitration, Nack, Stopped, ExpectedWrite, ExpectedRead, EventRead, EventWrite, EventStop}
@@ -25,7 +27,6 @@ use Rattle.calls.specs.declared.Report.{Report}
 use Rattle.calls.specs.declared.Report.the-variants.{Over}
 use Rattle.calls.specs.declared.SavedCall.{SavedCall}
 use Rattle.calls.specs.declared.Step.the-variants.{Wait}
-use Rattle.calls.specs.declared.TargetConfig.{TargetConfig}
 
 -- what the bench prints of a call: how it ended, the answers used, the accesses, the buffer
 record Came : Type 0 where
@@ -58,20 +59,12 @@ abbrev fromTiming : Case → Row
 fromTiming c = record { asked = word (c .question); answered = word (c .answer) }
 
 -- call n with its argument as in a bench file: the address of 7, the listen kind of 4 and 5
-abbrev pub description : ℕ → ℕ → Bool → ℕ → Bool → TargetConfig → Description
-description n argument ten timing configured config =
-    record {
-      call = n;
-      address = argument;
-      listen = argument;
-      timing = record { 0 = timing };
-      config = config;
-      ten = ten;
-      configured = configured;
-    }
+abbrev pub description : ℕ → ℕ → AddressMode → ℕ → Configuration → Description
+description n argument mode timing config =
+    record { call = n; address = argument; listen = argument; timing = record { 0 = timing }; config = config; mode = mode }
 
 abbrev pub plain : ℕ → ℕ → Description
-plain n argument = description n argument false 0 false (configOf 0)
+plain n argument = description n argument AddressMode7bit 0 Unconfigured
 
 -- accesses as the bench prints them
 abbrev r : ℕ → ℕ → Entry
@@ -104,7 +97,7 @@ transactions =
     -- Ten bits: `start` has no HEAD10R; `reload` no START, SADD or ADD10; `repeat_start` has HEAD10R. The start wait reads ISR
     -- and CR2 again while START stands. TCR ends the first operation and not TC, TC the second and not TCR, STOPF the last. RXNE comes before
     -- STOPF.
-    ∷ ran (description 7 0x2A5 true 0 false (configOf 0)) (1 ∷ 1 ∷ 0x10001 ∷ []) (0x12 ∷ 0x34 ∷ 0 ∷ []) (Done 0)
+    ∷ ran (description 7 0x2A5 AddressMode10bit 0 Unconfigured) (1 ∷ 1 ∷ 0x10001 ∷ []) (0x12 ∷ 0x34 ∷ 0 ∷ []) (Done 0)
     (w 0x04 0x01012AA5 ∷ r 0x18 1 ∷ r 0x04 0x2000 ∷ r 0x18 1 ∷ r 0x04 0 ∷ r 0x18 3 ∷ w 0x28 0x12 ∷ r 0x18 0x40 ∷ r 0x18 0x80
     ∷ w 0x04 0x00010000 ∷ r 0x18 1 ∷ r 0x04 0 ∷ r 0x18 3 ∷ w 0x28 0x34 ∷ r 0x18 0x80 ∷ r 0x18 0x40
     ∷ w 0x04 0x02013EA5 ∷ r 0x18 1 ∷ r 0x04 0 ∷ r 0x18 0x24 ∷ r 0x24 0x5A ∷ r 0x18 0x40 ∷ r 0x18 0x20 ∷ w 0x1C 0x20 ∷ [])
@@ -224,19 +217,19 @@ controls =
     (r 0x00 0xFFFFFFFF ∷ w 0x00 0xFFFFFFFE ∷ r 0x00 0 ∷ r 0x00 0 ∷ r 0x00 1 ∷ r 0x00 0 ∷ r 0x00 0x1000 ∷ w 0x00 0x1001 ∷ [])
     []
     -- call 1 writes CR1 anew, and TIMINGR without bits 24 to 27
-    ∷ ran (description 1 0 false 0x6FFB1C39 false (configOf 0)) [] [] (Done 0)
+    ∷ ran (description 1 0 AddressMode7bit 0x6FFB1C39 Unconfigured) [] [] (Done 0)
     (r 0x00 0xFFFFFFFF ∷ w 0x00 0xFFFFFFFE ∷ w 0x10 0x60FB1C39 ∷ w 0x00 1 ∷ [])
     []
     -- and OAR1 before that, where it has a configuration
-    ∷ ran (description 1 0 false 0x60FB1C39 true (configOf 0x42)) [] [] (Done 0)
+    ∷ ran (description 1 0 AddressMode7bit 0x60FB1C39 (Configured (configOf 0x42))) [] [] (Done 0)
     (r 0x00 0xFFFFFFFF ∷ w 0x00 0xFFFFFFFE ∷ w 0x10 0x60FB1C39 ∷ w 0x08 0x84 ∷ w 0x00 1 ∷ [])
     []
     -- call 2 writes neither SCLL nor SCLH, and changes PE and ANFOFF alone
-    ∷ ran (description 2 0 false 0xFFFFFFFF true (withMask 2 (withSecondary 0x21 (withMode AddressMode10bit (configOf 0x2A5))))) [] [] (Done 0)
+    ∷ ran (description 2 0 AddressMode7bit 0xFFFFFFFF (Configured (withMask 2 (withSecondary 0x21 (withMode AddressMode10bit (configOf 0x2A5)))))) [] [] (Done 0)
     (r 0x00 0xFFFFFFFF ∷ w 0x00 0xFFFFFFFE ∷ w 0x10 0xF0FF0000 ∷ w 0x08 0x6A5 ∷ w 0x0C 0x342 ∷ r 0x00 0xFFFFFFFE ∷ w 0x00 0xFFFFEFFF ∷ [])
     []
     -- a secondary address without a mask
-    ∷ ran (description 3 0 false 0 true (withSecondary 0x21 (configOf 0x42))) [] [] (Done 0) (w 0x08 0x84 ∷ w 0x0C 0x42 ∷ []) []
+    ∷ ran (description 3 0 AddressMode7bit 0 (Configured (withSecondary 0x21 (configOf 0x42)))) [] [] (Done 0) (w 0x08 0x84 ∷ w 0x0C 0x42 ∷ []) []
     -- 4 enables and 5 disables, kinds 0 to 2 in CR1, OAR1 and OAR2
     ∷ ran (plain 4 0) [] [] (Done 0) (r 0x00 0 ∷ w 0x00 0x00080000 ∷ []) []
     ∷ ran (plain 4 1) [] [] (Done 0) (r 0x08 0x84 ∷ w 0x08 0x8084 ∷ []) []

@@ -206,13 +206,13 @@ not-refusal q n l R (over′ h r) = rw r tt
 not-refusal q n l R (full′ h w r) = rw r tt
 not-refusal q n l R (waiting′ h w x u r) = rw r tt
 
-record Stopped (s : SavedCall) (b : List ℕ) (R : Run) : Type 0 where
-  saved : R .saved ≡ s
-  buffer : R .buffer ≡ b
-  used : R .used ≡ 0
-  entries : R .entries ≡ []
+pub record Stopped (s : SavedCall) (b : List ℕ) (R : Run) : Type 0 where
+  pub saved : R .saved ≡ s
+  pub buffer : R .buffer ≡ b
+  pub used : R .used ≡ 0
+  pub entries : R .entries ≡ []
 
-refusal-stops : (v : Verdict) (d : Description) (ops : List ℕ) (n : ℕ) (s : SavedCall) (b l : List ℕ)
+pub refusal-stops : (v : Verdict) (d : Description) (ops : List ℕ) (n : ℕ) (s : SavedCall) (b l : List ℕ)
     → T (isRefusal (runBy v d ops n s b l .report)) → Stopped s b (runBy v d ops n s b l)
 refusal-stops (Rejected r) d ops n s b l h = record { saved = refl; buffer = refl; used = refl; entries = refl }
 refusal-stops (Accepted c) d ops n s b l h = go (accepts q s) h
@@ -381,7 +381,7 @@ one-run q b As r = record {
 no-number : (c : Call) → eqb 0 (numberOf c) ≡ false
 no-number c = is-false (eqb 0 (numberOf c)) (every (λ c. not (eqb 0 (numberOf c))) tt c)
 
-refuses : (v : Verdict) (d : Description) (ops : List ℕ) (n : ℕ) (b l : List ℕ) → T (isRefusal (runBy v d ops n noCall b l .report))
+pub refuses : (v : Verdict) (d : Description) (ops : List ℕ) (n : ℕ) (b l : List ℕ) → T (isRefusal (runBy v d ops n noCall b l .report))
 unfolding accepts
 refuses (Rejected r) d ops n b l = tt
 refuses (Accepted c) d ops n b l = rw (no-number c) tt
@@ -392,7 +392,7 @@ refused-all A m =
     rw (got A noCall _ m refl .report)
     (refuses (checkOf (A .words) (A .operations) (length (A .buffer))) (A .words) (A .operations) (length (A .log) / 2) (A .buffer) (A .answers))
 
-no-run : (d : Description) (ops : List ℕ) (As : List Advance) (s : SavedCall) (b : List ℕ) → s ≡ noCall → Follows d ops As s b → NoRun b As
+pub no-run : (d : Description) (ops : List ℕ) (As : List Advance) (s : SavedCall) (b : List ℕ) → s ≡ noCall → Follows d ops As s b → NoRun b As
 no-run d ops [] s b e none = record { refused = tt; untouched = tt; made = refl; joined = refl; buffer = refl }
 no-run d ops (A ∷ As) s b e (then m e₁ e₂ e₃ r f) = absurd (T-not (refused A) r (refused-all A (rw e at m)))
 no-run d ops (A ∷ As) s b e (but m r f) =

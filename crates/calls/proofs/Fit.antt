@@ -1,13 +1,14 @@
--- What rows 10 and 11 leave of an accepted call's operations and buffer. Assumes nothing.
+-- What an accepted call is: its number is the description's, and rows 10 and 11 leave this of its operations and buffer.
+-- Assumes nothing.
 use Prim.Native.Nat.{ℕ, _≤_}
 use native.Mathlib.Omega.{arith}
-use mathlib.Core.Path.{_≡_}
+use mathlib.Core.Path.{_≡_, sym}
 use mathlib.Core.Bool.{Bool, true, false, not, _&&_, _||_}
-use mathlib.Core.List.{List}
+use mathlib.Core.List.{List, [], _∷_}
 use lib.Dec.{T, eqb, ltb, eqb→eq, nltb→le}
 use lib.ListN.{length}
-use Rattle.calls.specs.Calls.{call, transaction}
-use Rattle.calls.specs.Refusals.{noSuchListenKind, addressWide, total, anyOf, strangeBits, listWrong, operationLong, bufferWrong, verdictOf, requestOf, verdictBy, lookupOf, checkOf}
+use Rattle.calls.specs.Calls.{numberOf, call, transaction}
+use Rattle.calls.specs.Refusals.{noSuchCall, addressWide, total, anyOf, strangeBits, listWrong, operationLong, bufferWrong, verdictOf, requestOf, verdictBy, listed, lookupIn, lookupOf, checkOf}
 use Rattle.calls.specs.declared.Call.{Call}
 use Rattle.calls.specs.declared.Description.{Description}
 use Rattle.calls.specs.declared.Lookup.{Lookup}
@@ -22,35 +23,48 @@ pub record Fit (c : Call) (ops : List ℕ) (n : ℕ) : Type 0 where
   pub few : T (transaction c) → length ops ≤ 64
   pub sum : T (transaction c) → total ops ≡ n
 
+-- a call that is looked up has that number
+abbrev Numbered : ℕ → Lookup → Type 0
+Numbered n (Listed c) = numberOf c ≡ n
+Numbered n Unlisted = Unit {0}
+
+looked-up : (cs : List Call) (n : ℕ) → Numbered n (lookupIn cs n)
+looked-up [] n = tt
+looked-up (c ∷ cs) n = by-test (Numbered n) (eqb n (numberOf c)) (λ h. sym (eqb→eq n (numberOf c) h)) (λ _. looked-up cs n)
+
 -- the rows that an accepted call passed
-record Passed (c : Call) (ops : List ℕ) (n : ℕ) : Type 0 where
+record Passed (c : Call) (d : Description) (ops : List ℕ) (n : ℕ) : Type 0 where
+  number : numberOf c ≡ d .call
   list : T (not (listWrong c ops n))
   buffer : T (not (bufferWrong c n))
 
-passed : (c₀ c : Call) (d : Description) (ops : List ℕ) (n : ℕ) → verdictOf (requestOf c₀ d ops n) ≡ Accepted c
-    → Passed c ops n
+passed : (c₀ c : Call) (d : Description) (ops : List ℕ) (n : ℕ) → numberOf c₀ ≡ d .call
+    → verdictOf (requestOf c₀ d ops n) ≡ Accepted c → Passed c d ops n
 unfolding verdictOf
-passed c₀ c d ops n =
-    by-test P (noSuchListenKind c₀ d) (λ _ e. refused e) (λ _.
+passed c₀ c d ops n f =
+    by-test P (noSuchCall c₀ d) (λ _ e. refused e) (λ _.
     by-test P (addressWide c₀ d) (λ _ e. refused e) (λ _.
     by-test P (listWrong c₀ ops n) (λ _ e. refused e) (λ i.
     by-test P (operationLong c₀ ops) (λ _ e. refused e) (λ _.
     by-test P (bufferWrong c₀ n) (λ _ e. refused e) (λ k e.
-    let same : c ≡ c₀ = cc in rw same (record { list = i; buffer = k }))))))
+    let same : c ≡ c₀ = cc in rw same (record { number = f; list = i; buffer = k }))))))
   where
     P : Verdict → Type 0
-    P v = v ≡ Accepted c → Passed c ops n
+    P v = v ≡ Accepted c → Passed c d ops n
 
-    refused : {r : Refusal} → Refused r ≡ Accepted c → Passed c ops n
+    refused : {r : Refusal} → Refused r ≡ Accepted c → Passed c d ops n
     refused e = let z : _≡_ {A = ℕ} 0 1 = cc in absurd (omega arith)
 
-checked : (c : Call) (d : Description) (ops : List ℕ) (n : ℕ) → checkOf d ops n ≡ Accepted c → Passed c ops n
-unfolding checkOf
-checked c d ops n = go (lookupOf (d .call))
+checked : (c : Call) (d : Description) (ops : List ℕ) (n : ℕ) → checkOf d ops n ≡ Accepted c → Passed c d ops n
+unfolding checkOf lookupOf
+checked c d ops n = go (lookupOf (d .call)) (looked-up listed (d .call))
   where
-    go : (l : Lookup) → verdictBy l d ops n ≡ Accepted c → Passed c ops n
-    go Unlisted e = let z : _≡_ {A = ℕ} 0 1 = cc in absurd (omega arith)
-    go (Listed c₀) e = passed c₀ c d ops n e
+    go : (l : Lookup) → Numbered (d .call) l → verdictBy l d ops n ≡ Accepted c → Passed c d ops n
+    go Unlisted f e = let z : _≡_ {A = ℕ} 0 1 = cc in absurd (omega arith)
+    go (Listed c₀) f e = passed c₀ c d ops n f e
+
+pub accepted-number : (c : Call) (d : Description) (ops : List ℕ) (n : ℕ) → checkOf d ops n ≡ Accepted c → numberOf c ≡ d .call
+accepted-number c d ops n e = checked c d ops n e .number
 
 -- the list of a transaction: not too many, and the whole buffer
 list-fits : (t a b e : Bool) → T (not (t && (a || (b || not e)))) → T t → T (not a) × T e

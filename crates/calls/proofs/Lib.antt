@@ -18,3 +18,4 @@ pub mod Plain
 pub mod Restated
 pub mod Cases
 pub mod Worked
+pub mod Setters

@@ -16,7 +16,6 @@ use Rattle.calls.specs.Calls.{Request, numberOf, call, kinds, transactio
 use Rattle.calls.specs.Pieces.{Piece, pieceOf, piecesFor, piecesOf}
 use Rattle.calls.specs.Refusals.{listed, total}
 use Rattle.calls.specs.Run.{Entry, wordsOf, Run, runOf, asFinal, isNackClear, putOutFrom, putOut, takenIn}
-use Rattle.calls.specs.declared.Access.the-variants as access
 use Rattle.calls.specs.declared.Call.{Call}
 use Rattle.calls.specs.declared.Description.{Description}
 use Rattle.calls.specs.declared.Refusal.{Refusal}
@@ -33,6 +32,11 @@ use Rattle.calls.proofs.Places.{sizes, sizes-all, rising-places, NotIn,
 -- it was refused
 abbrev pub Refuses : Advance → Type 0
 Refuses A = (r : Refusal) × (A .result .report ≡ Refused r)
+
+-- it used no answer, wrote nothing, and handed back the saved call s
+abbrev pub LeftAlone : Advance → SavedCall → Type 0
+LeftAlone A s =
+    (A .result .used ≡ 0) × (A .result .written ≡ 0) × (A .result .saved ≡ s) × (A .bufferLeft ≡ A .buffer) × (A .logLeft ≡ A .log)
 
 -- It gave what the definition of an advance gives for what it was lent: counts, saved call, report and buffer; its entries stand first in
 -- the log, two words each, and the log's other words are as they were.
@@ -179,14 +183,14 @@ abbrev pub numbered : List ℕ → Call → Bool
 numbered [] c = false
 numbered (n ∷ ns) c = eqb (numberOf c) n || numbered ns c
 
-abbrev pub transactor : Call → Bool
-transactor c = numbered (7 ∷ []) c
+abbrev pub isTransaction : Call → Bool
+isTransaction c = numbered (7 ∷ []) c
 
-abbrev pub sender : Call → Bool
-sender c = numbered (10 ∷ 26 ∷ 12 ∷ 28 ∷ []) c
+abbrev pub isSender : Call → Bool
+isSender c = numbered (10 ∷ 26 ∷ 12 ∷ 28 ∷ []) c
 
-abbrev pub receiver : Call → Bool
-receiver c = numbered (9 ∷ 25 ∷ 11 ∷ 27 ∷ []) c
+abbrev pub isReceiver : Call → Bool
+isReceiver c = numbered (9 ∷ 25 ∷ 11 ∷ 27 ∷ []) c
 
 -- the bytes of the operations with bit 16 set (w is true), or of those without: operation after operation from the start of the buffer, each
 -- with as many bytes as its low sixteen bits say
@@ -198,13 +202,13 @@ ofOperations w (o ∷ os) b =
 
 -- what the caller gives to be put out, what of a buffer is to be filled, and what else there is of it
 abbrev pub toSend : Call → List ℕ → List ℕ → List ℕ
-toSend c ops b = cond (transactor c) (ofOperations false ops b) (cond (sender c) b [])
+toSend c ops b = cond (isTransaction c) (ofOperations false ops b) (cond (isSender c) b [])
 
 abbrev pub toFill : Call → List ℕ → List ℕ → List ℕ
-toFill c ops b = cond (transactor c) (ofOperations true ops b) (cond (receiver c) b [])
+toFill c ops b = cond (isTransaction c) (ofOperations true ops b) (cond (isReceiver c) b [])
 
 abbrev pub toKeep : Call → List ℕ → List ℕ → List ℕ
-toKeep c ops b = cond (transactor c) (ofOperations false ops b) (cond (receiver c) [] b)
+toKeep c ops b = cond (isTransaction c) (ofOperations false ops b) (cond (isReceiver c) [] b)
 
 or-4 : (a b c d : Bool) → (a || b) || (c || d) ≡ a || (b || (c || (d || false)))
 or-4 true b c d = refl
@@ -217,35 +221,35 @@ or-1 : (a : Bool) → a ≡ a || false
 or-1 true = refl
 or-1 false = refl
 
-pub is-transactor : (c : Call) → transaction c ≡ transactor c
+pub transaction-is : (c : Call) → transaction c ≡ isTransaction c
 unfolding call
-is-transactor c = or-1 (eqb (numberOf c) 7)
+transaction-is c = or-1 (eqb (numberOf c) 7)
 
-pub is-sender : (c : Call) → transmits c ≡ sender c
+pub sender-is : (c : Call) → transmits c ≡ isSender c
 unfolding kinds call
-is-sender c = or-4 (eqb (numberOf c) 10) (eqb (numberOf c) 26) (eqb (numberOf c) 12) (eqb (numberOf c) 28)
+sender-is c = or-4 (eqb (numberOf c) 10) (eqb (numberOf c) 26) (eqb (numberOf c) 12) (eqb (numberOf c) 28)
 
-pub is-receiver : (c : Call) → receives c ≡ receiver c
+pub receiver-is : (c : Call) → receives c ≡ isReceiver c
 unfolding kinds call
-is-receiver c = or-4 (eqb (numberOf c) 9) (eqb (numberOf c) 25) (eqb (numberOf c) 11) (eqb (numberOf c) 27)
+receiver-is c = or-4 (eqb (numberOf c) 9) (eqb (numberOf c) 25) (eqb (numberOf c) 11) (eqb (numberOf c) 27)
 
 -- what a computed test finds of each call of the list holds of any
 of-each : (f g : Call → Bool) → T (all (λ c. g c || not (f c)) listed) → (c : Call) → T (f c) → T (g c)
 of-each f g t c h = implies (f c) (g c) (every (λ c. g c || not (f c)) t c) h
 
-pub sends-0 : (c : Call) → T (numbered (10 ∷ 12 ∷ []) c) → T (sender c)
-sends-0 = of-each (numbered (10 ∷ 12 ∷ [])) sender tt
+pub auto-sender : (c : Call) → T (numbered (10 ∷ 12 ∷ []) c) → T (isSender c)
+auto-sender = of-each (numbered (10 ∷ 12 ∷ [])) isSender tt
 
-pub sends-1 : (c : Call) → T (numbered (26 ∷ 28 ∷ []) c) → T (sender c)
-sends-1 = of-each (numbered (26 ∷ 28 ∷ [])) sender tt
+pub manual-sender : (c : Call) → T (numbered (26 ∷ 28 ∷ []) c) → T (isSender c)
+manual-sender = of-each (numbered (26 ∷ 28 ∷ [])) isSender tt
 
-pub automatic : (c : Call) → T (numbered (10 ∷ 12 ∷ []) c) → T (not (manual c))
+pub is-auto : (c : Call) → T (numbered (10 ∷ 12 ∷ []) c) → T (not (manual c))
 unfolding manual
-automatic = of-each (numbered (10 ∷ 12 ∷ [])) (λ c. not (manual c)) tt
+is-auto = of-each (numbered (10 ∷ 12 ∷ [])) (λ c. not (manual c)) tt
 
-pub by-hand : (c : Call) → T (numbered (26 ∷ 28 ∷ []) c) → T (manual c)
+pub is-manual : (c : Call) → T (numbered (26 ∷ 28 ∷ []) c) → T (manual c)
 unfolding manual
-by-hand = of-each (numbered (26 ∷ 28 ∷ [])) manual tt
+is-manual = of-each (numbered (26 ∷ 28 ∷ [])) manual tt
 
 bytes-append : (b ks ls : List ℕ) → bytesAt b (ks ++ ls) ≡ bytesAt b ks ++ bytesAt b ls
 bytes-append b [] ls = refl
@@ -277,8 +281,8 @@ pub fill-is : (q : Request) (x : List ℕ) → length x ≡ q .size → (T (tran
     bytesAt x (readPlaces q) ≡ toFill (q .call) (q .operations) x
 fill-is q x z t =
     both (transaction (q .call))
-    (λ y. rw (← is-transactor (q .call), is-true (transaction (q .call)) y) (of-transaction true q x y (t y ∙ sym z)))
-    (λ n. rw (← is-transactor (q .call), ← is-receiver (q .call), is-false (transaction (q .call)) n) (go (receives (q .call))))
+    (λ y. rw (← transaction-is (q .call), is-true (transaction (q .call)) y) (of-transaction true q x y (t y ∙ sym z)))
+    (λ n. rw (← transaction-is (q .call), ← receiver-is (q .call), is-false (transaction (q .call)) n) (go (receives (q .call))))
   where
     go : (r : Bool) → bytesAt x (cond r (range 0 (q .size)) []) ≡ cond r x []
     go true = rw (← z) (bytes-all x)
@@ -288,8 +292,8 @@ pub send-is : (q : Request) (b : List ℕ) → length b ≡ q .size → (T (tran
     callerBytes q b ≡ toSend (q .call) (q .operations) b
 send-is q b z t =
     both (transaction (q .call))
-    (λ y. rw (← is-transactor (q .call), is-true (transaction (q .call)) y) (of-transaction false q b y (t y ∙ sym z)))
-    (λ n. rw (← is-transactor (q .call), ← is-sender (q .call), is-false (transaction (q .call)) n))
+    (λ y. rw (← transaction-is (q .call), is-true (transaction (q .call)) y) (of-transaction false q b y (t y ∙ sym z)))
+    (λ n. rw (← transaction-is (q .call), ← sender-is (q .call), is-false (transaction (q .call)) n))
 
 -- two buffers that differ at read places only have the same bytes elsewhere
 range-same : (b b′ : List ℕ) (at n : ℕ) → ((i : ℕ) → at ≤ i → i < at + n → getD b′ i 0 ≡ getD b i 0) → bytesAt b′ (range at n) ≡ bytesAt b (range at n)
@@ -331,12 +335,12 @@ keep-is q b b′ z e t h =
     both (transaction (q .call))
     (λ y.
     let w : total (q .operations) ≡ length b = t y ∙ sym z in
-    rw (← is-transactor (q .call), is-true (transaction (q .call)) y)
+    rw (← transaction-is (q .call), is-true (transaction (q .call)) y)
     (sym (of-transaction false q b′ y (w ∙ sym e))
     ∙ kept-same b b′ (q .size) 0 (piecesOf q) (omega (arith, sizes-all q t))
     (λ i _ n. h i (rw (is-true (transaction (q .call)) y) n))
     ∙ of-transaction false q b y w))
-    (λ n. rw (← is-transactor (q .call), ← is-receiver (q .call), is-false (transaction (q .call)) n)
+    (λ n. rw (← transaction-is (q .call), ← receiver-is (q .call), is-false (transaction (q .call)) n)
     (go (receives (q .call)) (λ i k. h i (rw (is-false (transaction (q .call)) n) k))))
   where
     go : (r : Bool) → ((i : ℕ) → NotIn i (cond r (range 0 (q .size)) []) → getD b′ i 0 ≡ getD b i 0) → cond r [] b′ ≡ cond r [] b

@@ -10,7 +10,7 @@ use lib.Dec.{T, T-not}
 use lib.ListN.{length, getD, drop}
 use Rattle.calls.specs.Advances.{Advance, refused, made, joined, bufferAfter, savedAfter, nobody, last, lastAccepted, Came, over, full, waiting, LastCame, NoneRefused, RefusedUntouched, AllRefused, NoRun}
 use Rattle.calls.specs.Bytes.{EndedAs, bytesAt, callerBytes, readPlaces, writeCount}
-use Rattle.calls.specs.Calls.{Request, call, transaction, manual}
+use Rattle.calls.specs.Calls.{Request, transaction, manual}
 use Rattle.calls.specs.Demand.{left, Kept, Demand3}
 use Rattle.calls.specs.Refusals.{total, requestOf, checkOf}
 use Rattle.calls.specs.Run.{Entry, wordsOf, Uncut, uncutOf, noCall, begunOf, putOut, takenIn}
@@ -31,7 +31,7 @@ use Rattle.calls.proofs.Demand.{demand-3}
 use Rattle.calls.proofs.Every.{is-eq}
 use Rattle.calls.proofs.Fit.{accepted-fit}
 use Rattle.calls.proofs.Logic.{is-true, is-false}
-use Rattle.calls.proofs.Plain.{Refuses, Leads, accesses, entries, answers, gave, received, sent, numbered, transactor, sender, receiver, toSend, toFill, toKeep, accesses-are, entries-are, answers-are, is-refused, not-refused, refuses, led, gave-is, received-is, sent-is, is-transactor, is-sender, is-receiver, sends-0, sends-1, automatic, by-hand, fill-is, send-is, keep-is, padded}
+use Rattle.calls.proofs.Plain.{Refuses, LeftAlone, Leads, accesses, entries, answers, gave, received, sent, numbered, isTransaction, isSender, isReceiver, toSend, toFill, toKeep, accesses-are, entries-are, answers-are, is-refused, not-refused, refuses, led, gave-is, received-is, sent-is, transaction-is, sender-is, receiver-is, auto-sender, manual-sender, is-auto, is-manual, fill-is, send-is, keep-is, padded}
 
 begun-at : (c : Call) (d : Description) (ops : List ℕ) (n : ℕ) → checkOf d ops n ≡ Accepted c →
     begunOf d ops n .saved ≡ beginOf (requestOf c d ops n)
@@ -56,11 +56,10 @@ last-is : (before : List Advance) (A : Advance) (after : List Advance) → ¬ Re
 last-is [] A after n h = rw (nobody-else after h, is-false (refused A) (not-refused A n))
 last-is (B ∷ before) A after n h = rw (last-is before A after n h)
 
-touched-not : (before : List Advance) (A : Advance) (after : List Advance) (s₀ s : SavedCall) →
-    RefusedUntouched (before ++ A ∷ after) s₀ → savedAfter before s₀ ≡ s → Refuses A →
-    (A .result .used ≡ 0) × (A .result .written ≡ 0) × (A .result .saved ≡ s) × (A .bufferLeft ≡ A .buffer) × (A .logLeft ≡ A .log)
-touched-not [] A after s₀ s h e r = let u = h .0 (is-refused A r) in (u .used, u .written, u .saved ∙ e, u .buffer, u .log)
-touched-not (B ∷ before) A after s₀ s h e r = touched-not before A after (B .result .saved) s (h .1) e r
+left-alone : (before : List Advance) (A : Advance) (after : List Advance) (s₀ s : SavedCall) →
+    RefusedUntouched (before ++ A ∷ after) s₀ → savedAfter before s₀ ≡ s → Refuses A → LeftAlone A s
+left-alone [] A after s₀ s h e r = let u = h .0 (is-refused A r) in (u .used, u .written, u .saved ∙ e, u .buffer, u .log)
+left-alone (B ∷ before) A after s₀ s h e r = left-alone before A after (B .result .saved) s (h .1) e r
 
 -- Begin was accepted as the call c, with the description d, the operations ops and the buffer b; the advances As followed, and led to
 -- the saved call s′ and the buffer b′.
@@ -134,10 +133,9 @@ module _ (c : Call) (d : Description) (ops b : List ℕ) (As : List Advance) (s�
 
   -- A refused advance uses no answer, writes nothing, and hands back the saved call that it got.
   pub refused-untouched : (before : List Advance) (A : Advance) (after : List Advance) (s : SavedCall) (x : List ℕ) → As ≡ before ++ A ∷ after →
-      Leads d ops before (begunOf d ops (length b) .saved) b s x → Refuses A →
-      (A .result .used ≡ 0) × (A .result .written ≡ 0) × (A .result .saved ≡ s) × (A .bufferLeft ≡ A .buffer) × (A .logLeft ≡ A .log)
+      Leads d ops before (begunOf d ops (length b) .saved) b s x → Refuses A → LeftAlone A s
   refused-untouched before A after s x e l r =
-      touched-not before A after (beginOf q) s (subst (λ (Bs : List Advance). RefusedUntouched Bs (beginOf q)) e (kept .one-run .untouched))
+      left-alone before A after (beginOf q) s (subst (λ (Bs : List Advance). RefusedUntouched Bs (beginOf q)) e (kept .one-run .untouched))
       (ap (savedAfter before) (sym started) ∙ led l .saved) r
 
   -- What the last accepted advance reports.
@@ -209,12 +207,12 @@ module _ (c : Call) (d : Description) (ops b : List ℕ) (As : List Advance) (s�
       ∙ ap (λ (l : List ℕ). getD l i 0) send
 
   -- Only 10, 12, 26 and 28 put out more than the caller's bytes.
-  pub sent-no-more : T (not (sender c)) → length (sent log) ≤ length (toSend c ops b)
-  sent-no-more n = rw (← out-is, ← send) (kept .bytes-out .no-zeros (rw (is-sender c) n))
+  pub sent-no-more : T (not (isSender c)) → length (sent log) ≤ length (toSend c ops b)
+  sent-no-more n = rw (← out-is, ← send) (kept .bytes-out .no-zeros (rw (sender-is c) n))
 
   -- A transaction that is done has put out all of them.
-  pub sent-all : T (transactor c) → s′ .step ≡ Ended → (n : ℕ) → s′ .outcome ≡ Done n → sent log ≡ toSend c ops b
-  sent-all t e n o = sym out-is ∙ kept .bytes-out .done (rw (is-transactor c) t) n (ended-as e n o) ∙ send
+  pub sent-all : T (isTransaction c) → s′ .step ≡ Ended → (n : ℕ) → s′ .outcome ≡ Done n → sent log ≡ toSend c ops b
+  sent-all t e n o = sym out-is ∙ kept .bytes-out .done (rw (transaction-is c) t) n (ended-as e n o) ∙ send
 
   -- ---- bytes in
 
@@ -239,33 +237,33 @@ module _ (c : Call) (d : Description) (ops b : List ℕ) (As : List Advance) (s�
   others-kept = keep-is q b b′ refl same-length fits (λ i h. rw (← buffer-is) (kept .bytes-in .others i h))
 
   -- A transaction that is done has filled all of them.
-  pub received-all : T (transactor c) → s′ .step ≡ Ended → (n : ℕ) → s′ .outcome ≡ Done n → toFill c ops b′ ≡ received log
-  received-all t e n o = sym fill′ ∙ kept .bytes-in .done (rw (is-transactor c) t) n (ended-as e n o) ∙ in-is
+  pub received-all : T (isTransaction c) → s′ .step ≡ Ended → (n : ℕ) → s′ .outcome ≡ Done n → toFill c ops b′ ≡ received log
+  received-all t e n o = sym fill′ ∙ kept .bytes-in .done (rw (transaction-is c) t) n (ended-as e n o) ∙ in-is
 
   -- ---- what `done` counts: of 9, 11, 25 and 27 the bytes received
-  pub count-received : T (receiver c) → s′ .step ≡ Ended → (n : ℕ) → s′ .outcome ≡ Done n → n ≡ length (received log)
-  count-received t e n o = kept .count n (ended-as e n o) .received (rw (is-receiver c) t) ∙ ap length in-is
+  pub count-received : T (isReceiver c) → s′ .step ≡ Ended → (n : ℕ) → s′ .outcome ≡ Done n → n ≡ length (received log)
+  count-received t e n o = kept .count n (ended-as e n o) .received (rw (receiver-is c) t) ∙ ap length in-is
 
-  sent-count : T (sender c) → s′ .step ≡ Ended → (n : ℕ) → s′ .outcome ≡ Done n → n ≡ writeCount (manual c) (length b) (length (sent log))
+  sent-count : T (isSender c) → s′ .step ≡ Ended → (n : ℕ) → s′ .outcome ≡ Done n → n ≡ writeCount (manual c) (length b) (length (sent log))
   sent-count t e n o =
-      kept .count n (ended-as e n o) .transmitted (rw (is-sender c) t)
+      kept .count n (ended-as e n o) .transmitted (rw (sender-is c) t)
       ∙ ap (λ (l : List ℕ). writeCount (manual c) (length b) (length l)) out-is
 
   -- of 10 and 12 one less than was put out, but no more than the buffer has
   pub count-sent : T (numbered (10 ∷ 12 ∷ []) c) → s′ .step ≡ Ended → (n : ℕ) → s′ .outcome ≡ Done n →
       n ≡ min (length (sent log) - 1) (length b)
-  count-sent t e n o = omega (arith, rw (is-false (manual c) (automatic c t)) at (sent-count (sends-0 c t) e n o))
+  count-sent t e n o = omega (arith, rw (is-false (manual c) (is-auto c t)) at (sent-count (auto-sender c t) e n o))
 
   -- of 26 and 28 the same of the last block of 255 that was reached, and all of the blocks before it
   pub count-sent-in-blocks : T (numbered (26 ∷ 28 ∷ []) c) → s′ .step ≡ Ended → (n : ℕ) → s′ .outcome ≡ Done n →
       let whole : ℕ = 255 * min (length (sent log) / 255) ((length b - 1) / 255) in
       n ≡ whole + min (length (sent log) - whole - 1) (length b - whole)
-  count-sent-in-blocks t e n o = rw (is-true (manual c) (by-hand c t)) at (sent-count (sends-1 c t) e n o)
+  count-sent-in-blocks t e n o = rw (is-true (manual c) (is-manual c t)) at (sent-count (manual-sender c t) e n o)
 
   -- and never more than was put out of the buffer
-  pub count-at-most : T (sender c) → s′ .step ≡ Ended → (n : ℕ) → s′ .outcome ≡ Done n → (n ≤ length (sent log)) × (n ≤ length b)
+  pub count-at-most : T (isSender c) → s′ .step ≡ Ended → (n : ℕ) → s′ .outcome ≡ Done n → (n ≤ length (sent log)) × (n ≤ length b)
   count-at-most t e n o =
-      let h = kept .count n (ended-as e n o) .at-most (rw (is-sender c) t) in
+      let h = kept .count n (ended-as e n o) .at-most (rw (sender-is c) t) in
       (omega (arith, h, ap length out-is), omega (arith, h))
 
   -- ---- the access number, which is held at its end
@@ -292,10 +290,9 @@ module _ (r : Refusal) (d : Description) (ops b : List ℕ) (As : List Advance) 
       go (A ∷ As) h = (refuses A (h .0), go As (h .1))
 
   pub all-untouched : (before : List Advance) (A : Advance) (after : List Advance) (s : SavedCall) (x : List ℕ) → As ≡ before ++ A ∷ after →
-      Leads d ops before (begunOf d ops (length b) .saved) b s x → Refuses A →
-      (A .result .used ≡ 0) × (A .result .written ≡ 0) × (A .result .saved ≡ s) × (A .bufferLeft ≡ A .buffer) × (A .logLeft ≡ A .log)
+      Leads d ops before (begunOf d ops (length b) .saved) b s x → Refuses A → LeftAlone A s
   all-untouched before A after s x e l h =
-      touched-not before A after noCall s (subst (λ (Bs : List Advance). RefusedUntouched Bs noCall) e (no-run .untouched))
+      left-alone before A after noCall s (subst (λ (Bs : List Advance). RefusedUntouched Bs noCall) e (no-run .untouched))
       (ap (savedAfter before) (sym not-started) ∙ led l .saved) h
 
   pub nothing-done : (accesses As ≡ 0) × (entries As ≡ []) × (b′ ≡ b)

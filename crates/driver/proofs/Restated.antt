@@ -1,22 +1,20 @@
 -- What the contracts of `begin`, `advance` and `next_access` give a caller, and demand 3 of the driver, once more, fact by fact. A contract or a
 -- theorem that loses a fact, and its proof with it, fails here. Assumes nothing.
 use Prim.Native.Nat.{ℕ, zero, suc, _*_, _/_}
-use mathlib.Core.Path.{_≡_, refl, sym, ap, _∙_, subst}
+use mathlib.Core.Path.{_≡_, refl, ap, _∙_, subst}
 use mathlib.Core.Bool.{not}
 use mathlib.Core.List.{List, [], _∷_, _++_, map}
-use lib.Dec.{T}
+use lib.Dec.{T, T-not}
 use lib.ListN.{length, drop}
 use contract.Lifetimes.{Lfts}
-use denote.Triple.Clauses
-use borrow.Fn.Kinds
 use borrow.Fn.World
 use Rattle.registers.specs.declared.Register.{Register}
 use Rattle.registers.specs.declared.Register.the-variants.{Rxdr}
 use Rattle.calls.proofs.Along.{no-access}
 use Rattle.calls.proofs.Cut.{two-each, runs}
 use Rattle.calls.proofs.Logic.{is-true, is-false}
-use Rattle.calls.proofs.Plain.{Refuses, Defined, is-refused, not-refused}
-use Rattle.calls.specs.Advances.{Advance, NoRun}
+use Rattle.calls.proofs.Plain.{Refuses, LeftAlone, Defined, is-refused, not-refused}
+use Rattle.calls.specs.Advances.{Advance, refused, NoRun}
 use Rattle.calls.specs.Calls.{Request}
 use Rattle.calls.specs.Demand.{Kept, Demand3}
 use Rattle.calls.specs.Refusals.{requestOf, checkOf, accepts}
@@ -26,7 +24,6 @@ use Rattle.calls.specs.declared.Access.the-variants as access
 use Rattle.calls.specs.declared.Begun.{Begun}
 use Rattle.calls.specs.declared.Call.{Call}
 use Rattle.calls.specs.declared.Description.{Description}
-use Rattle.calls.specs.declared.Next.{Next}
 use Rattle.calls.specs.declared.Next.the-variants as next
 use Rattle.calls.specs.declared.Refusal.{Refusal}
 use Rattle.calls.specs.declared.Refusal.the-variants.{SavedCall as BadSavedCall}
@@ -36,13 +33,14 @@ use Rattle.calls.specs.declared.SavedCall.{SavedCall}
 use Rattle.calls.specs.declared.Step.the-variants.{Ended}
 use Rattle.calls.specs.declared.Verdict.{Verdict}
 use Rattle.calls.specs.declared.Verdict.the-variants.{Accepted, Refused as Rejected}
-use Rattle.driver.proofs.Demand.{Advancing, savedIn, asAdvance, Beginning, Linked, end, apart, on, driver-demand-3}
+use Rattle.driver.specs.Demand.{Advancing, InTurn}
+use Rattle.driver.proofs.CameBack.{CameBack}
+use Rattle.driver.proofs.Demand.{BeginCall, AdvanceCall, advancing, driver-demand-3}
 use Rattle.driver.proofs.advance as advance
 use Rattle.driver.proofs.advance.Reads as advance-reads
 use Rattle.driver.proofs.begin as begin
 use Rattle.driver.proofs.begin.Reads as begin-reads
 use Rattle.driver.proofs.next_access as next-access
-use Rattle.driver.proofs.next_access.Kinds as next-access-kinds
 use Rattle.driver.proofs.next_access.Reads as next-access-reads
 
 -- ---- No function asks anything of its caller.
@@ -58,7 +56,7 @@ next-access-asks-nothing κs a = tt
 
 -- ---- A begin that came back: the verdict is that of the description; an accepted call stands at its beginning, a refused one has number 0.
 
-module _ (B : Beginning) where
+module _ (B : BeginCall) where
   abbrev d : Description
   d = B .given .0
 
@@ -81,22 +79,22 @@ module _ (B : Beginning) where
 
 -- ---- An advance that came back.
 
--- it used nothing and wrote nothing
+-- it reported r, and left everything alone
 abbrev Idle : Advance → SavedCall → Report → Type 0
-Idle A s r =
-    (A .result .report ≡ r) × (A .result .used ≡ 0) × (A .result .written ≡ 0) × (A .result .saved ≡ s)
-    × (A .bufferLeft ≡ A .buffer) × (A .logLeft ≡ A .log)
+Idle A s r = (A .result .report ≡ r) × LeftAlone A s
 
 idle : (A : Advance) (s : SavedCall) (r : Report) → Defined A s →
     runOf (A .words) (A .operations) (length (A .log) / 2) s (A .buffer) (A .answers) ≡ stops r s (A .buffer) → Idle A s r
 idle A s r h e =
     let a = h .0 ∙ ap (λ (R : Run). record { used = R .used; written = length (R .entries); saved = R .saved; report = R .report }) e in (
       ap (λ x. x .report) a,
-      ap (λ x. x .used) a,
-      ap (λ x. x .written) a,
-      ap (λ x. x .saved) a,
-      h .1 ∙ ap (λ (R : Run). R .buffer) e,
-      h .2 ∙ ap (λ (R : Run). wordsOf (R .entries) ++ drop (2 * length (R .entries)) (A .log)) e,
+      (
+        ap (λ x. x .used) a,
+        ap (λ x. x .written) a,
+        ap (λ x. x .saved) a,
+        h .1 ∙ ap (λ (R : Run). R .buffer) e,
+        h .2 ∙ ap (λ (R : Run). wordsOf (R .entries) ++ drop (2 * length (R .entries)) (A .log)) e,
+      ),
     )
 
 over-again : (q : Request) (n : ℕ) (s : SavedCall) (b l : List ℕ) → T (is (s .step) Ended) → advanceFrom q n s b l ≡ stops (Over (s .outcome)) s b
@@ -104,7 +102,24 @@ unfolding advanceFrom
 over-again q zero s b l e = rw (is-true (is (s .step) Ended) e)
 over-again q (suc n) s b l e = rw (no-access q b s e)
 
-module _ (C : Advancing) where
+-- what it was lent, what it returned, and the slices as it left them
+abbrev asAdvance : AdvanceCall → Advance
+asAdvance C =
+    record {
+      words = C .given .0;
+      operations = C .given .1 .0 .now;
+      buffer = C .given .1 .1 .1 .0 .now;
+      answers = C .given .1 .1 .1 .1 .0 .now;
+      log = C .given .1 .1 .1 .1 .1 .0 .now;
+      result = C .gave;
+      bufferLeft = C .left .1 .1 .1 .0 .now;
+      logLeft = C .left .1 .1 .1 .1 .1 .0 .now;
+    }
+
+abbrev savedIn : AdvanceCall → SavedCall
+savedIn C = C .given .1 .1 .0
+
+module _ (C : AdvanceCall) where
   abbrev A : Advance
   A = asAdvance C
 
@@ -146,14 +161,10 @@ module _ (C : Advancing) where
 
 -- ---- A call of `next_access` that came back.
 
-pub record Asking : Type 0 where
-  pub lifetimes : Lfts 2
-  pub given : borrow.Fn.World.ArgsD next-access.signature lifetimes
-  pub gave : borrow.Fn.World.ResD next-access.signature lifetimes
-  pub left : denote.Triple.Clauses.AtExit (borrow.Fn.Kinds.endedOf 2 next-access-kinds.ps next-access-kinds.r) lifetimes
-  pub contract : next-access-reads.Post lifetimes given gave left
+abbrev NextCall : Type 0
+NextCall = CameBack next-access.ended next-access-reads.Post
 
-module _ (N : Asking) where
+module _ (N : NextCall) where
   abbrev words : Description
   words = N .given .0
 
@@ -194,29 +205,49 @@ module _ (N : Asking) where
 -- ---- Demand 3 of the driver. Calls of `advance`, each handed the saved call that the last one returned: an accepted one lent the begun
 -- description and operations, and the buffer as the last accepted one left it, a refused one anything.
 
-pub data Calls (d : Description) (ops : List ℕ) : List Advancing → SavedCall → List ℕ → Type 0 where
+pub data Calls (d : Description) (ops : List ℕ) : List AdvanceCall → SavedCall → List ℕ → Type 0 where
   none : {s : SavedCall} {b : List ℕ} → Calls d ops [] s b
-  aside : {C : Advancing} {Cs : List Advancing} {s : SavedCall} {b : List ℕ} →
+  aside : {C : AdvanceCall} {Cs : List AdvanceCall} {s : SavedCall} {b : List ℕ} →
       savedIn C ≡ s → Refuses (asAdvance C) → Calls d ops Cs (C .gave .saved) b → Calls d ops (C ∷ Cs) s b
-  along : {C : Advancing} {Cs : List Advancing} {s : SavedCall} {b : List ℕ} →
+  along : {C : AdvanceCall} {Cs : List AdvanceCall} {s : SavedCall} {b : List ℕ} →
       savedIn C ≡ s → C .given .0 ≡ d → C .given .1 .0 .now ≡ ops → C .given .1 .1 .1 .0 .now ≡ b → ¬ Refuses (asAdvance C) →
       Calls d ops Cs (C .gave .saved) (C .left .1 .1 .1 .0 .now) → Calls d ops (C ∷ Cs) s b
 
-linked : {d : Description} {ops : List ℕ} {Cs : List Advancing} {s : SavedCall} {b : List ℕ} → Calls d ops Cs s b → Linked d ops Cs s b
-linked none = end
-linked (aside {C = C} e r l) = apart e (is-refused (asAdvance C) r) (linked l)
-linked (along {C = C} e w o x n l) = on e w o x (not-refused (asAdvance C) n) (linked l)
+in-turn : {d : Description} {ops : List ℕ} {Cs : List AdvanceCall} {s : SavedCall} {b : List ℕ} →
+    Calls d ops Cs s b → InTurn d ops s b (map advancing Cs)
+in-turn none = tt
+in-turn (aside {C = C} e h l) =
+    let r : T (refused (asAdvance C)) = is-refused (asAdvance C) h in (
+      record {
+        saved = e;
+        description = λ n. absurd (T-not (refused (asAdvance C)) n r);
+        operations = λ n. absurd (T-not (refused (asAdvance C)) n r);
+        buffer = λ n. absurd (T-not (refused (asAdvance C)) n r);
+      },
+      rw (is-true (refused (asAdvance C)) r) (in-turn l),
+    )
+in-turn (along {C = C} e w o x n l) = (
+  record { saved = e; description = λ _. w; operations = λ _. o; buffer = λ _. x },
+  rw (is-false (refused (asAdvance C)) (not-refused (asAdvance C) n)) (in-turn l),
+)
 
-module _ (B : Beginning) (Cs : List Advancing) (calls : Calls (B .given .0) (B .given .1 .0 .now) Cs (B .gave .saved) (B .given .1 .1 .0 .now)) where
+same-advances : (Cs : List AdvanceCall) → map (λ (C : Advancing). C .advance) (map advancing Cs) ≡ map asAdvance Cs
+same-advances [] = refl
+same-advances (C ∷ Cs) = ap {B = List Advance} (λ As. asAdvance C ∷ As) (same-advances Cs)
+
+module _ (B : BeginCall) (Cs : List AdvanceCall) (calls : Calls (B .given .0) (B .given .1 .0 .now) Cs (B .gave .saved) (B .given .1 .1 .0 .now)) where
+  demand : Demand3 (B .gave .verdict) (B .given .0) (B .given .1 .0 .now) (B .given .1 .1 .0 .now) (map asAdvance Cs)
+  demand =
+      subst (Demand3 (B .gave .verdict) (B .given .0) (B .given .1 .0 .now) (B .given .1 .1 .0 .now)) (same-advances Cs)
+      (driver-demand-3 B Cs (in-turn calls))
+
   -- an accepted begin: all that demand 3 says holds of them
   pub calls-kept : (c : Call) → B .gave .verdict ≡ Accepted c →
       Kept (requestOf c (B .given .0) (B .given .1 .0 .now) (length (B .given .1 .1 .0 .now))) (B .given .1 .1 .0 .now) (map asAdvance Cs)
   calls-kept c e =
-      subst (λ (v : Verdict). Demand3 v (B .given .0) (B .given .1 .0 .now) (B .given .1 .1 .0 .now) (map asAdvance Cs)) e
-      (driver-demand-3 B Cs (linked calls))
+      subst (λ (v : Verdict). Demand3 v (B .given .0) (B .given .1 .0 .now) (B .given .1 .1 .0 .now) (map asAdvance Cs)) e demand
 
   -- a refused one: all are refused, and nothing is done
   pub calls-refused : (r : Refusal) → B .gave .verdict ≡ Rejected r → NoRun (B .given .1 .1 .0 .now) (map asAdvance Cs)
   calls-refused r e =
-      subst (λ (v : Verdict). Demand3 v (B .given .0) (B .given .1 .0 .now) (B .given .1 .1 .0 .now) (map asAdvance Cs)) e
-      (driver-demand-3 B Cs (linked calls))
+      subst (λ (v : Verdict). Demand3 v (B .given .0) (B .given .1 .0 .now) (B .given .1 .1 .0 .now) (map asAdvance Cs)) e demand

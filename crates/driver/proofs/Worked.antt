@@ -1,23 +1,26 @@
--- The worked list of advances of the crate `calls`, as calls of the driver's functions: such calls as demand 3 of the driver speaks of
--- are there. Any advance that meets the definition is one that `advance` may make. Assumes nothing.
+-- The worked list of advances of the crate `calls`, as calls of the driver's functions: there are calls such as demand 3 of the driver
+-- speaks of. Any advance that meets the definition is one that a call of `advance` may make. Assumes nothing.
 use Prim.Native.Nat.{ℕ}
 use mathlib.Core.Path.{_≡_, refl}
 use mathlib.Core.List.{List, [], _∷_, map}
+use lib.Dec.{T-not}
 use lib.ListN.{length}
 use denote.Ref.{RefT}
-use Rattle.calls.proofs.Worked.{d, ops, b, advances, worked}
-use Rattle.calls.specs.Advances.{Advance, Meets, Follows, none, but, then}
+use Rattle.calls.proofs.Logic.{is-true, is-false}
+use Rattle.calls.proofs.Worked.{d, ops, b, worked}
+use Rattle.calls.specs.Advances.{Advance, Meets, refused, Follows, none, but, then}
 use Rattle.calls.specs.Run.{begunOf}
 use Rattle.calls.specs.declared.Description.{Description}
 use Rattle.calls.specs.declared.SavedCall.{SavedCall}
-use Rattle.driver.proofs.Demand.{Advancing, savedIn, asAdvance, Beginning, Linked, end, apart, on}
+use Rattle.driver.specs.Demand.{Advancing, InTurn, After}
+use Rattle.driver.proofs.Demand.{BeginCall, AdvanceCall, beginning, advancing}
 
 -- a lent slice; where it lies does not matter
 abbrev lent : List ℕ → RefT (List ℕ)
 lent l = record { ptr = (0, 0); name = 0; now = l }
 
-abbrev beginning : Description → List ℕ → List ℕ → Beginning
-beginning d ops b =
+abbrev begin-call : Description → List ℕ → List ℕ → BeginCall
+begin-call d ops b =
     record {
       lifetimes = ([], ([], tt));
       given = (d, (lent ops, (lent b, tt)));
@@ -26,8 +29,8 @@ beginning d ops b =
       contract = refl;
     }
 
-abbrev advancing : (A : Advance) (s : SavedCall) → Meets A s → Advancing
-advancing A s m =
+abbrev advance-call : (A : Advance) (s : SavedCall) → Meets A s → AdvanceCall
+advance-call A s m =
     record {
       lifetimes = ([], ([], ([], ([], tt))));
       given = (A .words, (lent (A .operations), (s, (lent (A .buffer), (lent (A .answers), (lent (A .log), tt))))));
@@ -38,19 +41,36 @@ advancing A s m =
 
 -- the calls of a list of advances
 record Called (d : Description) (ops : List ℕ) (As : List Advance) (s : SavedCall) (b : List ℕ) : Type 0 where
-  calls : List Advancing
-  are : map asAdvance calls ≡ As
-  linked : Linked d ops calls s b
+  calls : List AdvanceCall
+  are : map (λ (C : Advancing). C .advance) (map advancing calls) ≡ As
+  in-turn : InTurn d ops s b (map advancing calls)
 
 called : {d : Description} {ops : List ℕ} {As : List Advance} {s : SavedCall} {b : List ℕ} → Follows d ops As s b → Called d ops As s b
-called none = record { calls = []; are = refl; linked = end }
+called none = record { calls = []; are = refl; in-turn = tt }
 called (but {A = A} {s = s} m r f) =
     let k = called f in
-    record { calls = advancing A s m ∷ k .calls; are = λ i. A ∷ k .are i; linked = apart refl r (k .linked) }
-called (then {A = A} {s = s} m w o x r f) =
+    record {
+      calls = advance-call A s m ∷ k .calls;
+      are = λ i. A ∷ k .are i;
+      in-turn = (
+        record {
+          saved = refl;
+          description = λ n. absurd (T-not (refused A) n r);
+          operations = λ n. absurd (T-not (refused A) n r);
+          buffer = λ n. absurd (T-not (refused A) n r);
+        },
+        rw (is-true (refused A) r) (k .in-turn),
+      );
+    }
+called (then {A = A} {s = s} m w o x n f) =
     let k = called f in
-    record { calls = advancing A s m ∷ k .calls; are = λ i. A ∷ k .are i; linked = on refl w o x r (k .linked) }
+    record {
+      calls = advance-call A s m ∷ k .calls;
+      are = λ i. A ∷ k .are i;
+      in-turn =
+          (record { saved = refl; description = λ _. w; operations = λ _. o; buffer = λ _. x }, rw (is-false (refused A) n) (k .in-turn));
+    }
 
 -- document 01's run of call 7, begun, cut, refused twice, cut again and ended
-worked-calls : Called d ops advances (beginning d ops b .gave .saved) b
-worked-calls = called worked
+worked-calls : After (beginning (begin-call d ops b)) (map advancing (called worked .calls))
+worked-calls = called worked .in-turn

@@ -1,3 +1,4 @@
 pub mod Next
 pub mod Turn
 pub mod Views
+pub mod Demand

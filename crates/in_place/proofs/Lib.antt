@@ -1,2 +1,5 @@
 pub mod Values
 pub mod Lent
+pub mod Contract
+pub mod Demand
+pub mod Restated

@@ -1,5 +1,6 @@
 -- Reading and writing a saved call undo each other. Assumes nothing.
 use Prim.Native.Nat.{ℕ, _<_}
+use native.Mathlib.Omega.{arith}
 use mathlib.Core.Path.{_≡_, refl, sym, ap, _∙_}
 use mathlib.Core.Bool.{Bool, false, not, _&&_}
 use mathlib.Core.List.{List, [], _∷_}
@@ -16,8 +17,9 @@ use Rattle.calls.specs.declared.Outcome.{Outcome}
 use Rattle.calls.specs.declared.Outcome.the-variants.{Done, Bus, Arbitration, Nack, Stopped, ExpectedWrite, ExpectedRead, EventRead, EventWrite, EventStop}
 use Rattle.calls.specs.declared.SavedCall.{SavedCall}
 use Rattle.calls.specs.declared.Step.{Step}
-use Rattle.words.specs.Words.{wordsIn, wordAt, bytesOf}
-use Rattle.words.proofs.Round.{Below, words-back, whole-words}
+use Rattle.words.specs.Words.{Below, wordsIn, wordAt, bytesOf}
+use Rattle.words.proofs.Round.{words-back, whole-words}
+use Rattle.saved.specs.Range.{OfWords}
 use Rattle.saved.specs.Saved.{stepIn, stepAt, steps, outcomeIn, outcomes, outcomeAt, savedWords, savedBytes, isOutcome, isStep, isSaved, outcomeOf, stepOf, savedWith, savedIn}
 use Rattle.saved.specs.declared.outcome.FoundOutcome.{FoundOutcome}
 use Rattle.saved.specs.declared.outcome.FoundOutcome.the-variants.{AnOutcome, NoOutcome}
@@ -83,15 +85,6 @@ unfolding outcomeAt
 value-back n v = outcome-in (outcomes v) n v
 
 -- ---- saved calls
--- each word has 32 bits
-pub record OfWords (s : SavedCall) : Type 0 where
-  pub call : s .call < 4294967296
-  pub piece : s .piece < 4294967296
-  pub byte : s .byte < 4294967296
-  pub word : s .word < 4294967296
-  pub accesses : s .accesses < 4294967296
-  pub value : outcomeValue (s .outcome) < 4294967296
-
 number-below : (o : Outcome) → outcomeNumber o < 4294967296
 number-below (Done n) = lit< tt
 number-below Bus = lit< tt
@@ -108,7 +101,7 @@ step-below : (t : Step) → stepNumber t < 4294967296
 step-below t = ltb→lt (stepNumber t) 4294967296 (every-step (λ u. ltb (stepNumber u) 4294967296) tt t)
 
 words-below : (s : SavedCall) → OfWords s → Below 4294967296 (savedWords s)
-words-below s h = search (number-below (s .outcome), step-below (s .step))
+words-below s h = search (arith, number-below (s .outcome), step-below (s .step))
 
 -- reading what was written gives it back
 pub read-written : (s : SavedCall) → OfWords s → savedIn (savedBytes s) ≡ s

@@ -1,5 +1,5 @@
 -- Words of 32 bits as bytes, the low byte first. Assumes nothing.
-use Prim.Native.Nat.{ℕ, zero, suc, _+_, _*_, _/_, _%_}
+use Prim.Native.Nat.{ℕ, zero, suc, _+_, _*_, _/_, _%_, _<_}
 use mathlib.Core.Bool.{cond}
 use mathlib.Core.List.{List, [], _∷_, _++_}
 use lib.Dec.{leb}
@@ -35,3 +35,8 @@ putWords ws bytes = cond (leb (4 * length ws) (length bytes)) (bytesOf ws ++ dro
 -- and put from word number i on
 abbrev pub putWordsAt : ℕ → List ℕ → List ℕ → List ℕ
 putWordsAt i ws bytes = take (4 * i) bytes ++ putWords ws (drop (4 * i) bytes)
+
+-- Every number of a list is below n: below 256 they are bytes, below 4294967296 words.
+abbrev pub Below : ℕ → List ℕ → Type 0
+Below n [] = Unit {0}
+Below n (x ∷ xs) = (x < n) × Below n xs

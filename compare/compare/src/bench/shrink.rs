@@ -91,12 +91,11 @@ fn fewer(calls: &[Case], mut place: usize) -> Option<Vec<Case>> {
     }
     place -= calls.len();
     for case in &mut fewer {
-        let changes = changes(case);
-        if let Some(change) = changes.get(place) {
+        if let Some(change) = changes(case).nth(place) {
             *case = meaning::as_read(&change.made(case));
             return Some(fewer);
         }
-        place -= changes.len();
+        place -= changes(case).count();
     }
     None
 }

@@ -45,9 +45,10 @@ impl Case {
             ("own", asked.own_address),
             ("secondary", asked.secondary_address.unwrap_or(0)),
             ("mask", asked.mask.unwrap_or(0)),
+            ("way", asked.way),
         ];
         let some = [asked.secondary_address, asked.mask].map(|it| it.is_some());
-        let some = [false, false, false, false, some[0], some[1]];
+        let some = [false, false, false, false, some[0], some[1], false];
         for ((name, number), some) in numbers.into_iter().zip(some) {
             if some || number != 0 {
                 write!(text, " {name} 0x{number:x}").unwrap();

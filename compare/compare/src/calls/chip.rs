@@ -1,11 +1,21 @@
-//! Registers and flags by RM0492, as far as answers are chosen by them.
+//! Registers and flags by RM0492, as far as answers are chosen and logs are read by them.
 
 pub const CR1: u32 = 0x00;
 pub const CR2: u32 = 0x04;
+pub const OAR1: u32 = 0x08;
+pub const OAR2: u32 = 0x0C;
 pub const ISR: u32 = 0x18;
+pub const ICR: u32 = 0x1C;
+pub const RXDR: u32 = 0x24;
+pub const TXDR: u32 = 0x28;
+
+/// Added to the offset where an access is a write.
+pub const WRITTEN: u32 = 0x100;
 
 pub const PE: u32 = 0x1;
 pub const START: u32 = 0x2000;
+pub const RELOAD: u32 = 0x0100_0000;
+pub const AUTOEND: u32 = 0x0200_0000;
 
 pub const TXE: u32 = 0x01;
 pub const TXIS: u32 = 0x02;

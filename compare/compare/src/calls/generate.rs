@@ -1,10 +1,11 @@
 //! Random calls: every number, every limit from both sides, and answers that take most of them far.
 
-use oracle::{explore, Asked};
+use oracle::{explore, Asked, WAYS};
 
-use super::answers::Answers;
+use super::answers::{Answers, Stretch};
 use super::build::READ;
 use super::case::Case;
+use super::chip::{ARLO, BERR, NACKF, STOPF};
 use crate::random::Random;
 
 /// The listed calls.
@@ -23,12 +24,13 @@ pub fn case(random: &mut Random) -> Case {
     case
 }
 
-/// As `case`; but one in 32 has its lengths at their limits and goes to its end.
+/// As `case`; but one in 32 goes to its end with its lengths at their limits, and in one in 64
+/// nothing happens for long.
 pub fn case_or_edge(random: &mut Random) -> Case {
-    if random.up_to(31) == 0 {
-        edge(random)
-    } else {
-        case(random)
+    match random.up_to(63) {
+        0 | 1 => edge(random),
+        2 => idling(random),
+        _ => case(random),
     }
 }
 
@@ -38,14 +40,13 @@ fn edge(random: &mut Random) -> Case {
     asked.call = random.pick(&TRANSFERS);
     let length = if asked.call == 7 {
         asked.operations = edge_operations(random);
-        asked.operations.iter().map(|it| it & 0xFFFF).sum::<u32>() as usize
-    } else if random.up_to(63) == 0 {
-        65_534 + random.up_to(2) as usize
+        sum(&asked.operations)
     } else {
-        random.pick(&[0, 1, 253, 254, 255, 256, 257, 509, 510, 511, 512])
+        edge_length(random)
     };
     case.buffer.resize_with(length, || random.word() as u8);
-    case.answers = chosen(&case, random, Answers::to_the_end);
+    let choices = Answers::to_the_end(case.asked.call, length, random.split());
+    case.answers = chosen(&case, choices);
     case
 }
 
@@ -64,27 +65,52 @@ fn edge_operations(random: &mut Random) -> Vec<u32> {
     (0..count).map(|_| operation()).collect()
 }
 
-/// Answers as the driver asks for them, and perhaps a few more.
-pub fn answers(case: &Case, random: &mut Random) -> Vec<u32> {
-    chosen(case, random, Answers::new)
+/// The length of a target's buffer at the edge of a block, mostly of one of the first.
+fn edge_length(random: &mut Random) -> usize {
+    let length = match random.up_to(63) {
+        0 => random.up_to(65_536),
+        1 => 65_534 + random.up_to(2),
+        2..=4 => 255 * random.up_to(257) + random.up_to(2),
+        _ => 255 * random.up_to(4) + random.up_to(2),
+    };
+    length.saturating_sub(random.up_to(1)) as usize
 }
 
-fn chosen(
-    case: &Case,
-    random: &mut Random,
-    choices: impl FnOnce(u32, usize, Random) -> Answers,
-) -> Vec<u32> {
-    let Case { asked, buffer, .. } = case;
-    let mut answers = Vec::new();
-    if asked.refusal(buffer.len()).is_none() {
-        let mut choices = choices(asked.call, buffer.len(), random.split());
-        let choose = move |offset| choices.choose(offset);
-        answers = explore(&asked.description(), &mut buffer.clone(), choose);
-    }
+/// A call in which for a long time nothing happens.
+fn idling(random: &mut Random) -> Case {
+    let mut case = described(random);
+    let length = case.buffer.len();
+    let polls = match random.up_to(31) {
+        0 => 70_000,
+        _ => random.pick(&[20, 70, 300, 1_100, 5_000]),
+    };
+    let stretch = Stretch {
+        after: random.up_to(2 * length.min(1_000) as u32 + 10),
+        word: random.pick(&[0, 0, 0, BERR, ARLO, NACKF, STOPF]),
+        polls,
+    };
+    let choices = Answers::to_the_end(case.asked.call, length, random.split());
+    case.answers = chosen(&case, choices.stretched(stretch));
+    case
+}
+
+/// Answers as the driver asks for them, and perhaps a few more.
+pub fn answers(case: &Case, random: &mut Random) -> Vec<u32> {
+    let choices = Answers::new(case.asked.call, case.buffer.len(), random.split());
+    let mut answers = chosen(case, choices);
     if random.up_to(1) == 0 {
         answers.extend((0..random.up_to(3)).map(|_| random.word()));
     }
     answers
+}
+
+/// The answers that are chosen as the driver asks for them; none if it cannot express the call.
+pub fn chosen(case: &Case, mut choices: Answers) -> Vec<u32> {
+    let mut buffer = case.buffer.clone();
+    match case.asked.description(buffer.len()) {
+        Some(description) => explore(&description, &mut buffer, move |it| choices.choose(it)),
+        None => Vec::new(),
+    }
 }
 
 /// A call and its buffer, without answers.
@@ -147,13 +173,18 @@ fn own_words(asked: &mut Asked, random: &mut Random) -> usize {
             asked.ten_bit = random.up_to(1) == 0;
             asked.address = address(asked.ten_bit, random);
             asked.operations = operations(random);
-            return asked.operations.iter().map(|it| it & 0xFFFF).sum::<u32>() as usize;
+            return sum(&asked.operations);
         }
         9..=12 => return length(random).max(1),
         25..=28 => return length(random),
         _ => {}
     }
     [0, random.up_to(3)][random.up_to(1) as usize] as usize
+}
+
+/// The bytes of all operations.
+fn sum(operations: &[u32]) -> usize {
+    operations.iter().map(|it| (it & 0xFFFF) as usize).sum()
 }
 
 fn address(ten_bit: bool, random: &mut Random) -> u32 {
@@ -169,6 +200,7 @@ fn configure(asked: &mut Asked, random: &mut Random) {
     asked.own_address = address(asked.own_ten_bit, random);
     asked.secondary_address = (random.up_to(3) != 0).then(|| address(false, random));
     asked.mask = (random.up_to(3) != 0).then(|| random.up_to(6));
+    asked.way = random.up_to(WAYS - 1);
 }
 
 fn operations(random: &mut Random) -> Vec<u32> {
@@ -198,7 +230,7 @@ fn operations(random: &mut Random) -> Vec<u32> {
 /// The length of a target's buffer.
 fn length(random: &mut Random) -> usize {
     let edges = [
-        0, 1, 2, 254, 255, 256, 257, 509, 510, 511, 512, 600, 765, 766,
+        0, 1, 2, 254, 255, 256, 257, 509, 510, 511, 512, 600, 764, 765, 766, 1_020, 1_021,
     ];
     match random.up_to(15) {
         0..=5 => random.pick(&edges),
@@ -210,19 +242,14 @@ fn length(random: &mut Random) -> usize {
 
 /// Puts one of the call's words beyond its limit; gives the length of the buffer.
 fn spoil(asked: &mut Asked, length: usize, random: &mut Random) -> usize {
-    let wide = |most: u32, random: &mut Random| match random.up_to(2) {
-        0 => most + 1,
-        1 => random.pick(&[1 << 16, 1 << 31, u32::MAX - 1]),
-        _ => most + 1 + random.of_length(16),
-    };
     let most = |ten_bit| if ten_bit { 1_023 } else { 127 };
     match asked.call {
         1..=3 => match random.up_to(2) {
-            0 => asked.own_address = wide(most(asked.own_ten_bit), random),
-            1 => asked.secondary_address = Some(wide(127, random)),
-            _ => asked.mask = Some(wide(6, random)),
+            0 => asked.own_address = wide(most(asked.own_ten_bit), 0xFFFF, random),
+            1 => asked.secondary_address = Some(wide(127, 0xFF, random)),
+            _ => asked.mask = Some(wide(6, 0xFF, random)),
         },
-        4 | 5 => asked.listen = wide(2, random),
+        4 | 5 => asked.listen = wide(2, 2, random),
         7 => return spoil_transaction(asked, length, random),
         9..=12 => return random.pick(&[0, 0, 0, 65_536]),
         _ if random.up_to(15) == 0 => return 65_536,
@@ -231,9 +258,23 @@ fn spoil(asked: &mut Asked, length: usize, random: &mut Random) -> usize {
     length
 }
 
+/// A number above its limit, mostly one that still fits the driver's type.
+fn wide(most: u32, fits: u32, random: &mut Random) -> u32 {
+    match random.up_to(7) {
+        0 => random.pick(&[fits + 1, 1 << 16, 1 << 31, u32::MAX - 1]),
+        1 => most + 1 + random.of_length(16),
+        2 => fits.max(most + 1),
+        3 => most + 1,
+        _ => most + 1 + random.up_to(fits.saturating_sub(most + 1)),
+    }
+}
+
 fn spoil_transaction(asked: &mut Asked, length: usize, random: &mut Random) -> usize {
     match random.up_to(4) {
-        0 => asked.address = [128, 1_024][usize::from(asked.ten_bit)] + random.of_length(12),
+        0 => {
+            let (most, fits) = [(127, 0xFF), (1_023, 0xFFFF)][usize::from(asked.ten_bit)];
+            asked.address = wide(most, fits, random);
+        }
         1 => return length + 1,
         2 => return length.saturating_sub(1),
         3 => {
@@ -242,9 +283,64 @@ fn spoil_transaction(asked: &mut Asked, length: usize, random: &mut Random) -> u
             return length + long as usize;
         }
         _ => match random.up_to(1) {
-            0 => asked.operations.resize(65 + random.up_to(10) as usize, 0),
+            0 => {
+                let count = 65 + random.up_to(10) as usize;
+                asked
+                    .operations
+                    .resize_with(count, || random.pick(&[0, READ]));
+                return sum(&asked.operations);
+            }
             _ => asked.operations.push(1 << (17 + random.up_to(14))),
         },
     }
     length
+}
+
+#[cfg(test)]
+mod tests {
+    use super::*;
+    use crate::calls::run::Run;
+
+    #[test]
+    fn edges_come_to_their_end() {
+        let mut random = Random::new(1);
+        for _ in 0..500 {
+            let case = edge(&mut random);
+            let run = Run::of(&case);
+            let text = format!("call {} with {} bytes", run.call, run.buffer.len());
+            assert!(
+                run.is_refused() || run.word == "done",
+                "{text} {}",
+                run.word
+            );
+        }
+    }
+
+    #[test]
+    fn random_transfers_fill_long_buffers() {
+        let mut random = Random::new(1);
+        let mut full = Vec::new();
+        for _ in 0..20_000 {
+            let run = Run::of(&case(&mut random));
+            let length = run.buffer.len();
+            if run.word == "done" && length > 600 && run.value as usize == length {
+                full.push(run.call);
+            }
+        }
+        for number in [9, 10, 11, 12, 25, 26, 27, 28] {
+            assert!(full.contains(&number), "call {number}");
+        }
+    }
+
+    #[test]
+    fn configurations_are_built_in_every_way() {
+        let mut random = Random::new(1);
+        let mut ways = vec![false; WAYS as usize];
+        for _ in 0..2_000 {
+            let mut asked = Asked::default();
+            configure(&mut asked, &mut random);
+            ways[asked.way as usize] = true;
+        }
+        assert!(ways.into_iter().all(|it| it));
+    }
 }

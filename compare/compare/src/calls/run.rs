@@ -6,6 +6,7 @@ use std::fmt::Write;
 use oracle::{Access, Outcome, PanicKind};
 
 use super::case::Case;
+use super::chip::{TXDR, WRITTEN};
 
 pub struct Run {
     pub call: u32,
@@ -38,7 +39,9 @@ impl Run {
 
     fn of_accepted(case: &Case) -> Run {
         let mut buffer = case.buffer.clone();
-        let run = oracle::run(&case.asked.description(), &mut buffer, &case.answers);
+        let description = case.asked.description(buffer.len());
+        let description = description.expect("the driver can express what is accepted");
+        let run = oracle::run(&description, &mut buffer, &case.answers);
         let (word, value, panics) = match &run.outcome {
             Outcome::Panicked(panic) if panic.kind == PanicKind::NackAtOnce => {
                 ("done", whole_blocks(&run.log), true)
@@ -88,7 +91,10 @@ impl Run {
 /// The bytes of the blocks that were put out whole before a NACK at byte 0 of the next: document 01
 /// counts 0 for that one. The flush may have put out one byte more.
 pub fn whole_blocks(log: &[Access]) -> u32 {
-    let put = log.iter().filter(|access| access[0] == 0x128).count() as u32;
+    let put = log
+        .iter()
+        .filter(|access| access[0] == WRITTEN + TXDR)
+        .count() as u32;
     put / 255 * 255
 }
 

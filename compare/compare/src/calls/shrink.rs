@@ -9,7 +9,7 @@ use crate::shrink;
 
 /// The smallest call, of those tried, that differs.
 pub fn smallest(case: &Case, differs: impl Fn(&Case) -> io::Result<bool>) -> io::Result<Case> {
-    let smaller = |case: &Case, place: usize| Some(changes(case).get(place)?.made(case));
+    let smaller = |case: &Case, place: usize| Some(changes(case).nth(place)?.made(case));
     shrink::smallest(case, smaller, differs)
 }
 
@@ -29,7 +29,7 @@ pub enum Change {
 /// Puts a word of a description back to its start.
 type Clear = fn(&mut Asked);
 
-const WORDS: [Clear; 9] = [
+const WORDS: [Clear; 10] = [
     |asked| asked.address = 0,
     |asked| asked.ten_bit = false,
     |asked| asked.listen = 0,
@@ -39,32 +39,43 @@ const WORDS: [Clear; 9] = [
     |asked| asked.own_ten_bit = false,
     |asked| asked.secondary_address = None,
     |asked| asked.mask = None,
+    |asked| asked.way = 0,
 ];
 
+/// How many answers are removed at a time.
+const PARTS: [usize; 8] = [16_384, 4_096, 1_024, 256, 64, 16, 4, 1];
+
 /// What may be tried, that with much effect first.
-pub fn changes(case: &Case) -> Vec<Change> {
+pub fn changes(case: &Case) -> impl Iterator<Item = Change> {
     let answers = case.answers.len();
     let bytes = case.buffer.len();
-    let mut changes = vec![Change::ClearBytes, Change::ClearList];
-    changes.extend((0..WORDS.len()).map(Change::ClearWord));
     let less = |all: usize| [all / 2, all * 3 / 4, all.saturating_sub(1)];
-    changes.extend(less(answers).map(Change::CutAnswers));
-    changes.extend([0, 1].map(Change::CutBytes));
-    changes.extend(less(bytes).map(Change::CutBytes));
-    for place in 0..case.asked.operations.len() {
-        changes.push(Change::RemoveOperation(place));
-        changes.push(Change::ShortenOperation(place));
-    }
-    for count in [64, 16, 4, 1] {
+    let operations = (0..case.asked.operations.len()).flat_map(|place| {
+        [
+            Change::RemoveOperation(place),
+            Change::ShortenOperation(place),
+        ]
+    });
+    let removed = PARTS.into_iter().flat_map(move |count| {
         let places = (0..(answers + 1).saturating_sub(count)).step_by(count);
-        changes.extend(places.map(|place| Change::RemoveAnswers(place, count)));
-    }
-    for place in 0..answers {
-        changes.push(Change::MaskAnswer(place, 0));
-        changes.push(Change::MaskAnswer(place, 0x3FF));
-        changes.extend((0..10).map(|bit| Change::MaskAnswer(place, !(1 << bit))));
-    }
-    changes
+        places.map(move |place| Change::RemoveAnswers(place, count))
+    });
+    let masked = (0..answers).flat_map(|place| {
+        let bits = (0..10).map(move |bit| Change::MaskAnswer(place, !(1 << bit)));
+        [0, 0x3FF]
+            .map(|mask| Change::MaskAnswer(place, mask))
+            .into_iter()
+            .chain(bits)
+    });
+    [Change::ClearBytes, Change::ClearList]
+        .into_iter()
+        .chain((0..WORDS.len()).map(Change::ClearWord))
+        .chain(less(answers).map(Change::CutAnswers))
+        .chain([0, 1].map(Change::CutBytes))
+        .chain(less(bytes).map(Change::CutBytes))
+        .chain(operations)
+        .chain(removed)
+        .chain(masked)
 }
 
 impl Change {

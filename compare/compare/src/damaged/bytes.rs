@@ -71,7 +71,7 @@ impl Bytes {
     /// Damages some of it.
     pub fn damage(&mut self, random: &mut Random) {
         loop {
-            match random.up_to(9) {
+            match random.up_to(10) {
                 0 => damage_word(self.description_word(random), random),
                 1 => self.description = any_description(random),
                 2 => damage_bytes(&mut self.operations, random),
@@ -80,12 +80,20 @@ impl Bytes {
                 5 => self.saved = any_saved(self.description.call, random),
                 6 => damage_length(&mut self.answers, random),
                 7 => damage_bytes(&mut self.answers, random),
+                8 => self.add_long_operation(),
                 _ => damage_saved(&mut self.saved, random),
             }
             if random.up_to(2) != 0 {
                 return;
             }
         }
+    }
+
+    /// One operation more, which is longer than any may be.
+    fn add_long_operation(&mut self) {
+        const LONG: u32 = 256;
+        self.operations.extend(rattle::bytes(&[LONG]));
+        self.buffer.resize(self.buffer.len() + LONG as usize, 0);
     }
 
     fn description_word(&mut self, random: &mut Random) -> &mut u32 {
@@ -124,6 +132,7 @@ impl Bytes {
             own_ten_bit: it.own_ten != 0,
             secondary_address: some(it.secondary),
             mask: some(it.mask),
+            way: 0,
         };
         asked.refusal(self.buffer.len())
     }

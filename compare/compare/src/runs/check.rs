@@ -8,6 +8,7 @@ use super::cut;
 use super::room::{Log, Room, BLANK};
 use super::truth::{Truth, Uncut};
 use crate::calls::case::Case;
+use crate::calls::outside::{self, Row};
 use crate::random::Random;
 use crate::rattle::{self, saved, Advanced, Description, Next, ENTRY, SAVED, WAITING};
 
@@ -48,13 +49,14 @@ impl Input<'_> {
 }
 
 /// Where an uncut run stands that both agree on.
-#[derive(Clone, Copy)]
 pub struct Ended {
     pub report: u32,
     pub value: u32,
     /// The register that a waiting run waits for.
     pub awaited: u32,
     pub panics: bool,
+    /// Of a refused call, what the Rust does.
+    pub rows: Vec<Row>,
     pub saved: [u8; SAVED],
 }
 
@@ -77,9 +79,12 @@ impl Checker {
     /// Runs an input uncut and, where there are numbers to cut it by, cut. What differs is told.
     pub fn check(&mut self, input: Input, cuts: Option<&mut Random>) -> Result<Ended, String> {
         let uncut = self.truth.run(input.asked, input.buffer, input.answers);
-        let ended = whole(&mut self.lent, input, &uncut)?;
+        let mut ended = whole(&mut self.lent, input, &uncut)?;
         if let Some(random) = cuts {
             cut::check(&mut self.lent, input, &uncut, ended.awaited, random)?;
+        }
+        if uncut.is_refused() {
+            ended.rows = outside::rows(&input.case())?;
         }
         Ok(ended)
     }
@@ -125,6 +130,7 @@ fn whole(lent: &mut Lent, input: Input, uncut: &Uncut) -> Result<Ended, String> 
         value: uncut.value,
         awaited,
         panics: uncut.panics,
+        rows: Vec::new(),
         saved: lent.saved,
     })
 }

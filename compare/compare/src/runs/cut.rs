@@ -7,6 +7,7 @@ use super::check::{self, same, Input, Lent};
 use super::truth::Uncut;
 use super::wrong;
 use crate::calls::build::READ;
+use crate::calls::chip::RXDR;
 use crate::random::Random;
 use crate::rattle::{self, Advanced, ENTRY, FULL, WAITING};
 
@@ -180,7 +181,6 @@ impl<'a> Model<'a> {
     }
 
     fn make(&mut self, entry: Access) {
-        const RXDR: u32 = 0x24;
         if entry[0] != RXDR {
             return;
         }

@@ -14,11 +14,23 @@ use crate::rattle::{self, Description, ENTRY, FULL, SAVED};
 /// In how many ways a call is cut, where one is looked for that differs.
 const CUTS: u64 = 30;
 
+/// How many lines of a call are shown at most.
+const LINES: usize = 200;
+
 pub fn difference(case: &Case, told: &str) -> io::Result<()> {
     println!("runs: a difference in {told}");
     let cuts = if differs(case, 0).is_some() { 0 } else { CUTS };
     let smallest = shrink::smallest(case, |case| Ok(differs(case, cuts).is_some()))?;
-    println!("runs: it is shown by\n\n{}", smallest.text(""));
+    let shown = smallest.text("");
+    println!("runs: it is shown by\n");
+    shown
+        .lines()
+        .take(LINES)
+        .for_each(|line| println!("{line}"));
+    match shown.lines().count().saturating_sub(LINES) {
+        0 => println!(),
+        more => println!("and {more} lines more\n"),
+    }
     match differs(&smallest, cuts) {
         Some(told) => println!("{told}"),
         None => println!("only with the cuts that found it"),

@@ -57,7 +57,8 @@ impl Truth {
 
     /// The report, its value, and whether the Rust panics there.
     fn accepted(&mut self, asked: &Asked) -> (u32, u32, bool) {
-        let description = asked.description();
+        let description = asked.description(self.buffer.len());
+        let description = description.expect("the driver can express what is accepted");
         let (outcome, value) = run_over(&self.registers, &description, &mut self.buffer);
         match outcome {
             Outcome::Panicked(panic) if panic.kind == PanicKind::NackAtOnce => {

@@ -37,7 +37,6 @@ const STATUS: [u32; 22] = [
 /// The words that are tried where the register at this offset is read. A received byte tells its
 /// place, so that two of them are not the same.
 pub fn of(offset: u32, state: &[u8]) -> Vec<u32> {
-    const RXDR: u32 = 0x24;
     match offset {
         ISR => STATUS.to_vec(),
         RXDR => {
@@ -77,7 +76,7 @@ fn set_up() -> Vec<Case> {
 }
 
 /// A transaction with bytes for its lengths.
-fn operations(list: &[u32]) -> Case {
+pub fn operations(list: &[u32]) -> Case {
     let length: u32 = list.iter().map(|word| word & 0xFFFF).sum();
     transaction(list).bytes(&counted(length as usize))
 }

@@ -3,21 +3,35 @@ use Rattle.boundary.proofs.huskerivory_advance.Statement.{statement}
 use Rattle.boundary.proofs.huskerivory_advance.Tie as tie
 use borrow.Author.Needs.{needs}
 use mathlib.Core.Path.{_∙_}
+use native.Mathlib.Omega.{arith}
 use Rattle.boundary.proofs.Answers.{listed}
 use Rattle.window.proofs.Laid.{room, counted}
+use Rattle.words.proofs.Round.{all-below}
 
 pub huskerivory-advance-spec : {M : Type 1} → statement M
 huskerivory-advance-spec =
     tie.close
     (tie.spec
     (λ c κs. search needs)
-    (λ c. search needs)
-    (λ c κs. search needs)
-    (λ c κs. search needs)
-    (λ c. room _ _ _ _ (c .before .before .decode .ensures))
-    (λ c. counted _ _ _ _ (c .before .before .before .decode .ensures))
     (λ c κs. search needs)
     (λ c. search needs)
+    (λ c κs. search needs)
+    (λ c. room _ _ _ _ (c .before .decode .ensures))
+    (λ c. counted _ _ _ _ (c .before .before .decode .ensures))
+    (λ c κs. search needs)
     (λ c. search needs)
     (λ c. search needs)
-    (λ c. c .before .before .before .before .before .before .advance .ensures ∙ rw (listed (c .before .before .before .before .before .before .before .before .before .before .before .before .before .before .before .before .before .before .before .before .before .args .operations .now) _ _ _ (c .before .before .before .before .before .before .before .before .before .before .before .before .before .before .before .list .ensures) (c .before .before .before .before .before .before .before .before .before .before .before .before .before .decode .ensures), c .before .before .before .before .before .before .before .before .before .before .before .describe .ensures)))
+    (λ c. search needs)
+    (λ c.
+    let advanced = c .before .before .before .before .before .before in
+    let decoded = advanced .before .before .before .before .before .before in
+    let made = decoded .before .before in
+    let described = made .before in
+    let entered = described .before .before in
+    let start = entered .before .before .before .before in (
+      advanced .advance .ensures ∙ rw (listed (start .args .operations .now) _ _ _ (made .list .ensures) (decoded .decode .ensures), described .describe .ensures),
+      (
+        all-below 256 (start .args .buffer .now) (λ i. omega (arith, entered .before .slice-known2 .given i)),
+        all-below 256 (start .args .answers .now) (λ i. omega (arith, entered .shared-slice-known2 .given i)),
+      ),
+    )))

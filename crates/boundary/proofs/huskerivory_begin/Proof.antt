@@ -11,11 +11,17 @@ huskerivory-begin-spec =
     tie.close
     (tie.spec
     (λ c κs. search needs)
-    (λ c. search needs)
-    (λ c κs. search needs)
-    (λ c κs. search needs)
-    (λ c. room _ _ _ _ (c .before .before .decode .ensures))
-    (λ c. counted _ _ _ _ (c .before .before .before .decode .ensures))
     (λ c κs. search needs)
     (λ c. search needs)
-    (λ c. c .before .before .begin .ensures ∙ rw (listed (c .before .before .before .before .before .before .before .before .before .before .before .before .before .args .operations .now) _ _ _ (c .before .before .before .before .before .before .before .before .before .list .ensures) (c .before .before .before .before .before .before .before .decode .ensures), c .before .before .before .before .before .describe .ensures)))
+    (λ c κs. search needs)
+    (λ c. room _ _ _ _ (c .before .decode .ensures))
+    (λ c. counted _ _ _ _ (c .before .before .decode .ensures))
+    (λ c κs. search needs)
+    (λ c. search needs)
+    (λ c.
+    let begun = c .before .before in
+    let decoded = begun .before .before .before .before in
+    let made = decoded .before .before in
+    let described = made .before in
+    let start = described .before .before .before .before in
+    begun .begin .ensures ∙ rw (listed (start .args .operations .now) _ _ _ (made .list .ensures) (decoded .decode .ensures), described .describe .ensures)))

@@ -1,0 +1,145 @@
+//! Kinds of run that have to occur, beside every call and outcome: long buffers that come to their
+//! end, long polls, and what the Rust does with refused calls.
+
+use std::collections::BTreeMap;
+use std::fmt;
+
+use oracle::Access;
+
+use super::check::{Ended, Input};
+use super::polls::{self, Wait, WAITS};
+use crate::calls::chip::{ICR, NACKF, TXDR, WRITTEN};
+use crate::calls::outside::Row;
+
+/// The calls of a target that move bytes, and those of them that put bytes out.
+pub const TRANSFERS: [u32; 8] = [9, 10, 11, 12, 25, 26, 27, 28];
+pub const TRANSMISSIONS: [u32; 4] = [10, 12, 26, 28];
+
+/// A buffer is long if it has more bytes than three blocks; and how many zeros are many.
+const LONG: usize = 765;
+const ZEROS: usize = 1_000;
+
+#[derive(Clone, Copy, Debug, PartialEq, Eq, PartialOrd, Ord)]
+enum Kind {
+    /// A call moved all bytes of a long buffer and counted them.
+    Full(u32),
+    /// And it put out many zeros after them.
+    Zeros(u32),
+    Polled(u32, Wait),
+    Refused(Row),
+}
+
+impl Kind {
+    fn all() -> Vec<Kind> {
+        let full = TRANSFERS.map(Kind::Full);
+        let zeros = TRANSMISSIONS.map(Kind::Zeros);
+        let polled = WAITS.map(|(call, wait)| Kind::Polled(call, wait));
+        let refused = Row::ALL.map(Kind::Refused);
+        [&full[..], &zeros, &polled, &refused].concat()
+    }
+}
+
+impl fmt::Display for Kind {
+    fn fmt(&self, f: &mut fmt::Formatter) -> fmt::Result {
+        match self {
+            Kind::Full(call) => write!(f, "call {call}: full buffers over {LONG} bytes"),
+            Kind::Zeros(call) => write!(f, "call {call}: such buffers and {ZEROS} zeros"),
+            Kind::Polled(call, wait) => {
+                write!(f, "call {call}: long polls for {}", wait.words())
+            }
+            Kind::Refused(row) => write!(f, "refused calls, of the Rust: {}", row.words()),
+        }
+    }
+}
+
+/// How often each kind of run occurred.
+#[derive(Default)]
+pub struct Kinds(BTreeMap<Kind, u64>);
+
+impl Kinds {
+    /// Counts a run, of which this is the log.
+    pub fn count(&mut self, input: Input, ended: &Ended, log: &[Access]) {
+        let (call, length) = (input.asked.call, input.buffer.len());
+        for &row in &ended.rows {
+            self.add(Kind::Refused(row));
+        }
+        for wait in polls::long(input.asked, length, log) {
+            self.add(Kind::Polled(call, wait));
+        }
+        let full = ended.report == 0 && ended.value as usize == length;
+        if full && length > LONG && TRANSFERS.contains(&call) {
+            self.add(Kind::Full(call));
+            let before_flush = log.iter().take_while(|&&it| it != [WRITTEN + ICR, NACKF]);
+            let sent = before_flush.filter(|it| it[0] == WRITTEN + TXDR);
+            if sent.count() >= length + ZEROS {
+                self.add(Kind::Zeros(call));
+            }
+        }
+    }
+
+    fn add(&mut self, kind: Kind) {
+        *self.0.entry(kind).or_default() += 1;
+    }
+
+    fn occurred(&self, kind: Kind) -> u64 {
+        self.0.get(&kind).copied().unwrap_or_default()
+    }
+
+    pub fn print(&self) {
+        for kind in Kind::all() {
+            println!("{kind}: {}", self.occurred(kind));
+        }
+    }
+
+    /// Whether every kind of run occurred.
+    pub fn all_reached(&self) -> bool {
+        self.missing().next().is_none()
+    }
+
+    pub fn print_missing(&self) {
+        self.missing().for_each(|kind| println!("runs: no {kind}"));
+    }
+
+    fn missing(&self) -> impl Iterator<Item = Kind> + '_ {
+        let kinds = Kind::all().into_iter();
+        kinds.filter(|&kind| self.occurred(kind) == 0)
+    }
+}
+
+#[cfg(test)]
+mod tests {
+    use super::*;
+    use crate::calls::build::{call, counted};
+    use crate::calls::case::Case;
+    use crate::runs::check::Checker;
+
+    fn kinds(case: &Case) -> Vec<Kind> {
+        let mut checker = Checker::default();
+        let ended = checker.check(case.into(), None).unwrap();
+        let mut kinds = Kinds::default();
+        kinds.count(case.into(), &ended, checker.last().0);
+        assert!(!kinds.all_reached());
+        kinds.0.into_keys().collect()
+    }
+
+    #[test]
+    fn full_buffers_are_told_from_others() {
+        let reads = |length: usize, bytes| call(9).zeros(length).receives(bytes).answers(&[0]);
+        assert_eq!(kinds(&reads(765, 765)), []);
+        assert_eq!(kinds(&reads(766, 766)), [Kind::Full(9)]);
+        assert_eq!(kinds(&reads(766, 765).answers(&[0x20, 0])), []);
+        let writes = |zeros: usize| call(10).bytes(&counted(766)).asks_for(766 + zeros).nacks();
+        assert_eq!(kinds(&writes(0)), []);
+        assert_eq!(kinds(&writes(1)), [Kind::Full(10)]);
+        let zeros = writes(ZEROS);
+        assert_eq!(kinds(&zeros), [Kind::Full(10), Kind::Zeros(10)]);
+    }
+
+    #[test]
+    fn polls_and_refused_calls() {
+        let polls = call(8).answers(&[0; polls::LONG]);
+        assert_eq!(kinds(&polls), [Kind::Polled(8, Wait::Event)]);
+        let row = Row::MaskAlone;
+        assert_eq!(kinds(&row.example()), [Kind::Refused(row)]);
+    }
+}
