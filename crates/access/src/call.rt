@@ -3,13 +3,13 @@ ghost use mathlib.Core.Path.{_≡_};
 ghost use mathlib.Core.Bool.{_&&_, not};
 ghost use Prim.Native.Nat.{_<_};
 ghost use lib.Dec.{leb};
-ghost use Rattle.calls.specs.Calls.{byAck, numberOf, call, kinds, transaction, manual, receives, transmits, eventful, configured, hasSecondary, hasMask};
+ghost use Rattle.calls.specs.Calls.{byAck, numberOf, call, kinds, transaction, manual, receives, transmits, eventful, isConfigured, isSecondary, hasSecondary};
 ghost use Rattle.calls.specs.Outcomes.{isDone, isEventRead, outcomeValue};
 use calls::Ack;
 use calls::Call;
-use calls::Description;
+use calls::Configuration;
 use calls::Outcome;
-use calls::TargetConfig;
+use calls::SecondaryAddress;
 
 fn by_ack(n: u32, a: Ack) -> u32
     requires { ⌜ n < 16 ⌝ }
@@ -136,22 +136,34 @@ pub fn is_auto_receiver(c: Call) -> bool
     is_receiver(c) & !is_manual(c)
 }
 
-pub fn is_configured(c: Call, d: Description) -> bool
-    ensures { λ r. ⌜ r ≡ configured c d ⌝ }
+pub fn has_configuration(config: Configuration) -> bool
+    ensures { λ r. ⌜ r ≡ isConfigured config ⌝ }
 {
-    !is_call(c, 1) || d.configured
+    match config {
+        Configuration::Unconfigured => false,
+        Configuration::Configured(_) => true,
+    }
 }
 
-pub fn has_secondary(d: Description) -> bool
-    ensures { λ r. ⌜ r ≡ hasSecondary d ⌝ }
+fn is_secondary(address: SecondaryAddress) -> bool
+    ensures { λ r. ⌜ r ≡ isSecondary address ⌝ }
 {
-    d.config.secondary != TargetConfig::NONE
+    match address {
+        SecondaryAddress::NoSecondary => false,
+        SecondaryAddress::Secondary(_) => true,
+    }
 }
 
-pub fn has_mask(d: Description) -> bool
-    ensures { λ r. ⌜ r ≡ hasMask d ⌝ }
+pub fn has_secondary(config: Configuration) -> bool
+    ensures { λ r. ⌜ r ≡ hasSecondary config ⌝ }
 {
-    d.config.mask != TargetConfig::NONE
+    match config {
+        Configuration::Unconfigured => false,
+        Configuration::Configured(t) => {
+            let secondary = t.secondary;
+            is_secondary(secondary)
+        }
+    }
 }
 
 pub fn is_done(o: Outcome) -> bool

@@ -17,6 +17,7 @@ use registers::Cr1;
 use registers::Icr;
 use registers::Isr;
 use registers::Register;
+use registers::Txdr;
 
 pub mod call;
 mod words;
@@ -72,11 +73,14 @@ pub fn place(v: View, s: SavedCall) -> usize
     v.start as usize + s.byte as usize
 }
 
-// A byte of the buffer, 0 past its end.
+// TXDR's word for a byte of the buffer, 0 past its end.
 fn byte_at(b: &[u8], i: usize) -> u32
     ensures { λ r. ⌜ r ≡ getD (now (b .entry)) i 0 ⌝ }
 {
-    if i < b.len() { b[i] as u32 } else { 0 }
+    if i < b.len() {
+        return Txdr(Txdr::RESET).with_txdata(b[i] as u32).0;
+    }
+    0
 }
 
 pub fn byte_out(v: View, b: &[u8], s: SavedCall) -> u32
@@ -101,6 +105,7 @@ pub fn access(c: Call, d: Description, v: View, b: &[u8], s: SavedCall) -> Acces
     ensures { λ r. ⌜ r ≡ accessAt c d v (now (b .entry)) s (s .step) ⌝ }
 {
     let step = s.step;
+    let config = d.config;
     match step {
         Step::Ended => Access::Nothing,
         Step::Begin => Access::Write(Register::Cr2, words::cr2_word(d, v, s.piece != 0)),
@@ -117,8 +122,8 @@ pub fn access(c: Call, d: Description, v: View, b: &[u8], s: SavedCall) -> Acces
         Step::FlushTxe => Access::Read(Register::Isr),
         Step::Flush => flush(),
         Step::Timing => Access::Write(Register::Timingr, words::timingr_word(c, d)),
-        Step::Own => Access::Write(Register::Oar1, words::oar1_word(d)),
-        Step::Secondary => Access::Write(Register::Oar2, words::oar2_word(d)),
+        Step::Own => Access::Write(Register::Oar1, words::oar1_word(config)),
+        Step::Secondary => Access::Write(Register::Oar2, words::oar2_word(config)),
         Step::Enable => enable(),
         Step::Delay1 => Access::Read(Register::Cr1),
         Step::Delay2 => Access::Read(Register::Cr1),

@@ -1,10 +1,14 @@
 // The words that a call writes into control registers. A modify's word keeps what was read but for its fields.
 ghost use mathlib.Core.Path.{_≡_};
-ghost use Rattle.calls.specs.Words.{transfer, addressed, cr2Of, targetTiming, timingrOf, oar1Of, oar2Of, listenRegister, registerOf, enabledWord, listenWord, alterOf};
+ghost use Rattle.calls.specs.Words.{transfer, addressed, cr2Of, targetTiming, timingrOf, ownWord, secondaryWord, oar1Of, oar2Of, listenRegister, registerOf, enabledWord, listenWord, alterOf};
 use crate::call;
+use calls::AddressMode;
 use calls::Call;
+use calls::Configuration;
 use calls::Description;
+use calls::MaskBits;
 use calls::Modify;
+use calls::SecondaryAddress;
 use calls::View;
 use registers::Cr1;
 use registers::Cr2;
@@ -26,16 +30,16 @@ fn transfer_word(v: View) -> u32
     w.0
 }
 
-fn with_address(d: Description, again: bool, w: u32) -> u32
-    ensures { λ r. ⌜ r ≡ addressed d again w ⌝ }
+fn with_address(mode: AddressMode, address: u32, again: bool, w: u32) -> u32
+    ensures { λ r. ⌜ r ≡ addressed mode address again w ⌝ }
 {
-    if d.ten {
-        return Cr2(w).with_sadd(d.address)
+    match mode {
+        AddressMode::AddressMode7bit => Cr2(w).with_sadd(address << 1).0,
+        AddressMode::AddressMode10bit => Cr2(w).with_sadd(address)
             .with_add10(true)
             .with_head10r(again)
-            .0;
+            .0,
     }
-    Cr2(w).with_sadd(d.address << 1).0
 }
 
 // Begins an operation; `again` where the start is repeated.
@@ -46,7 +50,8 @@ pub fn cr2_word(d: Description, v: View, again: bool) -> u32
     if v.reload {
         return w;
     }
-    with_address(d, again, Cr2(w).with_start(true).0)
+    let mode = d.mode;
+    with_address(mode, d.address, again, Cr2(w).with_start(true).0)
 }
 
 fn target_timing(t: I2cTiming) -> I2cTiming
@@ -72,22 +77,56 @@ pub fn timingr_word(c: Call, d: Description) -> u32
     t.word().0
 }
 
-pub fn oar1_word(d: Description) -> u32
-    ensures { λ r. ⌜ r ≡ oar1Of d ⌝ }
+fn own_word(mode: AddressMode, own: u32) -> u32
+    ensures { λ r. ⌜ r ≡ ownWord mode own ⌝ }
 {
-    if d.config.ten {
-        return Oar1::ten_bit(d.config.own).0;
+    match mode {
+        AddressMode::AddressMode7bit => Oar1::seven_bit(own).0,
+        AddressMode::AddressMode10bit => Oar1::ten_bit(own).0,
     }
-    Oar1::seven_bit(d.config.own).0
 }
 
-pub fn oar2_word(d: Description) -> u32
-    ensures { λ r. ⌜ r ≡ oar2Of d ⌝ }
+pub fn oar1_word(config: Configuration) -> u32
+    ensures { λ r. ⌜ r ≡ oar1Of config ⌝ }
 {
-    if call::has_mask(d) {
-        return Oar2::masked(d.config.secondary, d.config.mask).0;
+    match config {
+        Configuration::Unconfigured => Oar1::RESET,
+        Configuration::Configured(t) => {
+            let mode = t.mode;
+            own_word(mode, t.own)
+        }
     }
-    Oar2::secondary(d.config.secondary).0
+}
+
+fn masked_word(address: u32, mask: MaskBits) -> u32
+    ensures { λ r. ⌜ r ≡ secondaryWord (SecondaryAddress.Secondary address) mask ⌝ }
+{
+    match mask {
+        MaskBits::Unmasked => Oar2::secondary(address).0,
+        MaskBits::Masked(bits) => Oar2::masked(address, bits).0,
+    }
+}
+
+fn secondary_word(secondary: SecondaryAddress, mask: MaskBits) -> u32
+    ensures { λ r. ⌜ r ≡ secondaryWord secondary mask ⌝ }
+{
+    match secondary {
+        SecondaryAddress::NoSecondary => Oar2::RESET,
+        SecondaryAddress::Secondary(address) => masked_word(address, mask),
+    }
+}
+
+pub fn oar2_word(config: Configuration) -> u32
+    ensures { λ r. ⌜ r ≡ oar2Of config ⌝ }
+{
+    match config {
+        Configuration::Unconfigured => Oar2::RESET,
+        Configuration::Configured(t) => {
+            let secondary = t.secondary;
+            let mask = t.mask;
+            secondary_word(secondary, mask)
+        }
+    }
 }
 
 fn listen_register(kind: u32) -> Register

@@ -7,8 +7,10 @@ use lib.Dec.{eqb, leb, ltb}
 use lib.ListN.{length, getD, take, drop, replicate}
 use Rattle.calls.specs.Pieces.{pieceOf}
 use Rattle.calls.specs.Refusals.{anyOf}
+use Rattle.calls.specs.declared.Configuration.{Configuration}
+use Rattle.calls.specs.declared.Configuration.the-variants.{Unconfigured, Configured}
 use Rattle.calls.specs.declared.Description.{Description}
-use Rattle.calls.specs.declared.TargetConfig.{TargetConfig}
+use Rattle.address_words.specs.Words.{modeOf, configIn}
 
 -- 24 to 29 are read like 8 to 13
 unfoldable pub plain : ℕ → ℕ
@@ -63,9 +65,10 @@ unfoldable pub callWrong : ℕ → ℕ → List ℕ → Bool
 callWrong n a head = argumentWrong (plain n) a || headWrong (plain n) head
 
 -- ---- The description. A call looks only at the words that belong to it. Own address, mode, secondary address and mask stand
--- after the TIMINGR word, which 3 does not have.
-abbrev pub configIn : List ℕ → TargetConfig
-configIn ws = record { own = getD ws 0 0; secondary = getD ws 2 0; mask = getD ws 3 0; ten = eqb (getD ws 1 0) 1 }
+-- after the TIMINGR word, which 3 does not have; where no four words do, there is no configuration.
+abbrev pub configurationIn : List ℕ → Configuration
+configurationIn ws =
+    cond (eqb (length ws) 4) (Configured (configIn (getD ws 0 0) (getD ws 1 0) (getD ws 2 0) (getD ws 3 0))) Unconfigured
 
 abbrev pub configFrom : ℕ → ℕ
 configFrom n = cond (eqb n 3) 0 1
@@ -77,9 +80,8 @@ descriptionOf n a head =
       address = a % 65536;
       listen = a;
       timing = record { 0 = getD head 0 0 };
-      config = configIn (drop (configFrom n) head);
-      ten = leb 65536 a;
-      configured = eqb (length head) 5;
+      config = configurationIn (drop (configFrom n) head);
+      mode = modeOf (leb 65536 a);
     }
 
 -- ---- The operation list, for 7 only, and the buffer.

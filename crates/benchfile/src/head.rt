@@ -5,12 +5,12 @@ ghost use Rattle.calls.specs.Pieces.{pieceOf};
 ghost use Rattle.benchfile.specs.Calls.{plain as Calls·plain};
 ghost use Rattle.benchfile.specs.Calls.{hasArgument, argumentWrong, anyWide, writeSize, writeBytes, listWrong};
 ghost use Rattle.benchfile.specs.Calls.{transactionWrong, configWrong, headWrong, callWrong};
-ghost use Rattle.benchfile.specs.Calls.{configIn, configFrom, descriptionOf, listIn, operationsOf};
+ghost use Rattle.benchfile.specs.Calls.{configurationIn, configFrom, descriptionOf, listIn, operationsOf};
 use crate::part::after;
 use crate::part::first;
 use crate::part::word;
+use calls::Configuration;
 use calls::Description;
-use calls::TargetConfig;
 use timing::RawTimingr;
 
 // The number by which a call is read: 24 to 29 are read like 8 to 13.
@@ -123,15 +123,20 @@ pub fn is_call_wrong(n: u32, a: u32, head: &[u32]) -> bool
     is_argument_wrong(like, a) | is_head_wrong(like, head)
 }
 
-fn config(words: &[u32]) -> TargetConfig
-    ensures { λ r. ⌜ r ≡ configIn (now (words .entry)) ⌝ }
+// Own address, mode, secondary address and mask.
+fn config(words: &[u32]) -> Configuration
+    ensures { λ r. ⌜ r ≡ configurationIn (now (words .entry)) ⌝ }
 {
-    TargetConfig {
-        own: word(words, 0),
-        secondary: word(words, 2),
-        mask: word(words, 3),
-        ten: word(words, 1) == 1,
+    if words.len() == 4 {
+        let config = address_words::config(
+            word(words, 0),
+            word(words, 1),
+            word(words, 2),
+            word(words, 3),
+        );
+        return Configuration::Configured(config);
     }
+    Configuration::Unconfigured
 }
 
 fn config_from(n: u32) -> usize
@@ -149,8 +154,7 @@ pub fn describe(n: u32, a: u32, head: &[u32]) -> Description
         listen: a,
         timing: RawTimingr(word(head, 0)),
         config: config(after(head, config_from(n))),
-        ten: a >= 65_536,
-        configured: head.len() == 5,
+        mode: address_words::address_mode(a >= 65_536),
     }
 }
 

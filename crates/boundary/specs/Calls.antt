@@ -1,16 +1,19 @@
 -- What the C boundary gives for a call: the core's begin, advance and next access over what the bytes mean. Assumes nothing.
 use Prim.Native.Nat.{ℕ, _+_, _*_, _/_}
-use mathlib.Core.Bool.{Bool, true, false, cond, not}
+use mathlib.Core.Bool.{Bool, true, false, cond, not, _||_}
 use mathlib.Core.List.{List, [], _∷_, _++_}
 use lib.Dec.{eqb}
 use lib.ListN.{length, take, drop}
 use Rattle.registers.specs.Map.{offsetOf}
 use Rattle.words.specs.Words.{wordsIn, bytesOf}
+use Rattle.address_words.specs.Words.{modeOf, configIn}
 use Rattle.saved.specs.Saved.{savedIn, writtenTo}
 use Rattle.calls.specs.Advances.{isRefusal}
 use Rattle.calls.specs.Outcomes.{refusalNumber, reportNumber, reportValue}
 use Rattle.calls.specs.Run.{Entry, wordsOf, Run, begunOf, runOf}
 use Rattle.calls.specs.declared.Begun.{Begun}
+use Rattle.calls.specs.declared.Configuration.{Configuration}
+use Rattle.calls.specs.declared.Configuration.the-variants.{Unconfigured, Configured}
 use Rattle.calls.specs.declared.Description.{Description}
 use Rattle.calls.specs.declared.Next.{Next}
 use Rattle.calls.specs.declared.Next.the-variants.{Over, Read, Write, Refused}
@@ -28,6 +31,14 @@ use Rattle.boundary.specs.declared.call.CallDescription.{CallDescription
 abbrev pub yes : ℕ → Bool
 yes n = not (eqb n 0)
 
+-- 1 has a configuration where it says so, 2 and 3 always.
+abbrev pub hasConfiguration : ℕ → ℕ → Bool
+hasConfiguration call configured = cond (eqb call 1) (yes configured) (eqb call 2 || eqb call 3)
+
+abbrev pub configurationOf : CallDescription → Configuration
+configurationOf a =
+    cond (hasConfiguration (a .call) (a .configured)) (Configured (configIn (a .own) (a .«own_ten») (a .secondary) (a .mask))) Unconfigured
+
 abbrev pub descriptionOf : CallDescription → Description
 descriptionOf a =
     record {
@@ -35,9 +46,8 @@ descriptionOf a =
       address = a .address;
       listen = a .listen;
       timing = record { 0 = a .timingr };
-      config = record { own = a .own; secondary = a .secondary; mask = a .mask; ten = yes (a .«own_ten») };
-      ten = yes (a .ten);
-      configured = yes (a .configured);
+      config = configurationOf a;
+      mode = modeOf (yes (a .ten));
     }
 
 -- Of an operation list 65 words are read: more than 64 are refused, whatever follows.

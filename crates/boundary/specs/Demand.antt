@@ -55,9 +55,9 @@ pub record Advancing : Type 0 where
 abbrev pub refused : Advancing → Bool
 refused C = eqb (C .answer .report) 11
 
--- ---- What goes from one advance to the next. Each is handed the saved bytes as the last call left them. An accepted one is
--- lent the begun description d, the begun operations ops, and the buffer b as the last accepted one left it; a refused one may
--- be lent any others.
+-- ---- What goes from one advance to the next (same section: demand 3 is one statement on the whole list of advances). Each is
+-- handed the saved bytes as the last call left them. An accepted one is lent the begun description d, the begun operations ops,
+-- and the buffer b as the last accepted one left it; a refused one may be lent any others.
 pub record Handed (d : CallDescription) (ops s b : List ℕ) (C : Advancing) : Type 0 where
   pub saved : C .saved ≡ s
   pub description : T (not (refused C)) → C .description ≡ d
@@ -74,11 +74,12 @@ After B Cs = InTurn (B .description) (B .operations) (B .savedLeft) (B .buffer) 
 
 -- ---- What an advance says: its numbers as a report, and its bytes as words.
 
--- the refusals from number 8 on
+-- the refusals from number 8 on, as document 01's table has them
 abbrev pub refusals : List Refusal
 refusals = Address ∷ Long ∷ BadList ∷ Buffer ∷ NoSuchCall ∷ BadSavedCall ∷ []
 
--- document 01's outcome words in their order, with the value v; `full` comes last
+-- document 01's outcome words in their order (section "Bench"), with the value v; `full` comes last. That no other numbers come
+-- up is a part of what holds: `ReadExactly`, below.
 abbrev pub reports : ℕ → List Report
 reports v =
     Over (Done v) ∷ Over Bus ∷ Over Arbitration ∷ Over Nack ∷ Over Stopped ∷ Over ExpectedWrite ∷ Over ExpectedRead

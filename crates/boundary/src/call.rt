@@ -10,14 +10,14 @@ ghost use Rattle.calls.specs.Advances.{isRefusal};
 ghost use Rattle.calls.specs.Outcomes.{refusalNumber, reportNumber, reportValue};
 ghost use Rattle.calls.specs.Steps.{accessAt};
 ghost use Rattle.saved.specs.Saved.{writtenTo};
-ghost use Rattle.boundary.specs.Calls.{descriptionOf, verdictNumber, asBegin, beginIn, accessAnswer, accessIn, asFinal, finalIn, awaitedBy, readingView};
+ghost use Rattle.boundary.specs.Calls.{hasConfiguration, configurationOf, descriptionOf, verdictNumber, asBegin, beginIn, accessAnswer, accessIn, asFinal, finalIn, awaitedBy, readingView};
 use calls::Call;
+use calls::Configuration;
 use calls::Description;
 use calls::Next;
 use calls::Refusal;
 use calls::Report;
 use calls::SavedCall;
-use calls::TargetConfig;
 use calls::Verdict;
 use calls::View;
 use timing::RawTimingr;
@@ -53,6 +53,28 @@ pub struct AccessAnswer {
     pub value: u32,
 }
 
+// 1 has a configuration where it says so, 2 and 3 always.
+fn is_configured(call: u32, configured: u32) -> bool
+    ensures { λ r. ⌜ r ≡ hasConfiguration call configured ⌝ }
+{
+    match call {
+        1 => configured != 0,
+        2 => true,
+        3 => true,
+        _ => false,
+    }
+}
+
+fn configuration(a: CallDescription) -> Configuration
+    ensures { λ r. ⌜ r ≡ configurationOf a ⌝ }
+{
+    if is_configured(a.call, a.configured) {
+        let config = address_words::config(a.own, a.own_ten, a.secondary, a.mask);
+        return Configuration::Configured(config);
+    }
+    Configuration::Unconfigured
+}
+
 pub fn describe(a: CallDescription) -> Description
     ensures { λ r. ⌜ r ≡ descriptionOf a ⌝ }
 {
@@ -61,14 +83,8 @@ pub fn describe(a: CallDescription) -> Description
         address: a.address,
         listen: a.listen,
         timing: RawTimingr(a.timingr),
-        config: TargetConfig {
-            own: a.own,
-            secondary: a.secondary,
-            mask: a.mask,
-            ten: a.own_ten != 0,
-        },
-        ten: a.ten != 0,
-        configured: a.configured != 0,
+        config: configuration(a),
+        mode: address_words::address_mode(a.ten != 0),
     }
 }
 

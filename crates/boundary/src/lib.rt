@@ -125,9 +125,10 @@ pub extern "C" fn huskerivory_begin(
 ) -> u32
     ensures { λ r. ⌜ asBegin r (now (saved .exit)) ≡ beginIn (descriptionOf description) (operationsIn (now (operations .entry))) (length (now (buffer .entry))) (now (saved .entry)) ⌝ }
 {
+    let d = call::describe(description);
     let mut ops = list();
     let n = words::decode(operations, &mut ops);
-    call::begin(call::describe(description), &ops[..n], buffer, saved)
+    call::begin(d, &ops[..n], buffer, saved)
 }
 
 // Advances a call with answers, and leaves its accesses in the log. That a slice of bytes holds bytes is said too, so that what
@@ -144,16 +145,10 @@ pub extern "C" fn huskerivory_advance(
     ensures { λ r. ⌜ asFinal r (now (saved .exit)) (now (buffer .exit)) (now (log .exit)) ≡ finalIn (descriptionOf description) (operationsIn (now (operations .entry))) (now (saved .entry)) (now (buffer .entry)) (now (answers .entry)) (now (log .entry)) ⌝ }
     ensures bytes { λ _. ⌜ Below 256 (now (buffer .entry)) × Below 256 (now (answers .entry)) ⌝ }
 {
+    let d = call::describe(description);
     let mut ops = list();
     let n = words::decode(operations, &mut ops);
-    call::advance(
-        call::describe(description),
-        &ops[..n],
-        saved,
-        buffer,
-        answers,
-        log,
-    )
+    call::advance(d, &ops[..n], saved, buffer, answers, log)
 }
 
 // The access that the next advance makes first.
@@ -166,7 +161,8 @@ pub extern "C" fn huskerivory_next(
 ) -> AccessAnswer
     ensures { λ r. ⌜ r ≡ accessIn (descriptionOf description) (operationsIn (now (operations .entry))) (now (saved .entry)) (now (buffer .entry)) ⌝ }
 {
+    let d = call::describe(description);
     let mut ops = list();
     let n = words::decode(operations, &mut ops);
-    call::next(call::describe(description), &ops[..n], saved, buffer)
+    call::next(d, &ops[..n], saved, buffer)
 }

@@ -19,7 +19,6 @@ use Rattle.calls.specs.declared.Then.{Then}
 use Rattle.calls.specs.declared.Then.the-variants.{Goes, Loads, Notes, Next, Enters, Fails, Ends}
 use Rattle.calls.specs.declared.View.{View}
 use Rattle.calls.proofs.Logic.{only, only-not, only-if, if-only, and-in, or-0, or-1, or-else, by-test, both}
-use Rattle.calls.proofs.Every.{implied}
 pub use Rattle.calls.proofs.Every.{is-eq}
 use Rattle.calls.proofs.Fits.{Fits, plain, fits}
 use Rattle.calls.proofs.Views.{notedIn, thenIn, after-noted, thereIn, sizeIn}
@@ -125,13 +124,10 @@ record Begins (q : Request) (t : Step) : Type 0 where
 
 begins : (q : Request) → Begins q (beginAt (q .call) (some q))
 unfolding hasIn call
-begins q = search (by-test (Begins q), at, and-in, or-0, or-1, not-new, some-target) depth 16
+begins q = search (by-test (Begins q), at, and-in, or-0, or-1, some-target) depth 16
   where
     at : (t : Step) → T (takes q t) → T (not (is t Byte)) → Begins q t
     at t h n = record { taken = h; no-byte = n }
-
-    not-new : T (call (q .call) 3) → T (not (call (q .call) 1))
-    not-new = implied q (λ r. call (r .call) 3) (λ r. not (call (r .call) 1)) tt
 
 pub accepted-begin : (q : Request) → T (accepts q (beginOf q))
 unfolding beginOf

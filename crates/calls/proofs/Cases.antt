@@ -1,64 +1,55 @@
 -- Document 01's "Proved cases" as one computed table: the twelve of the crate `timing`, and the run of call 7 that the
--- section "Bench" prints; with it some runs of target calls whose logs were written out by hand. Assumes nothing.
-use Prim.Native.Nat.{ℕ}
+-- section "Bench" prints. With them runs that pin the step tables, entry by entry; each row says which. They are the Rust's, as
+-- `compare bench-text` prints them (of the first of `transfers` with document 01's outcome, docs/DIFFERENCES.md). Assumes nothing.
+use Prim.Native.Nat.{ℕ, suc, _+_}
 use mathlib.Core.Path.{_≡_, refl}
-use mathlib.Core.Bool.{false}
 use mathlib.Core.List.{List, [], _∷_, _++_, map}
 use lib.ListN.{length, replicate}
 use Rattle.fields.specs.Field.{bitsAt, withBits, getOf, putOf}
 use Rattle.timing.proofs.Cases.{Question, Answer, Case, ask, cases}
 use Rattle.timing.specs.Bands.{timingOf, bandOf, inBandOf, equalAt, doubleAt}
 use Rattle.timing.specs.Timingr.{unpackOf}
-use Rattle.calls.specs.Calls.{Request, call, kinds, manual, none}
-use Rattle.calls.specs.Pieces.{piecesFor, piecesOf}
-use Rattle.calls.specs.Run.{Uncut, wordsOf, uncutOf}
+use Rattle.calls.specs.Advances.{answersIn}
+use Rattle.calls.specs.Calls.{call, kinds, manual, configOf, withMode, withSecondary, withMask}
+use Rattle.calls.specs.Pieces.{piecesFor}
+use Rattle.calls.specs.Refusals.{lookupOf, verdictOf, checkOf, hasIn, accepts}
+use Rattle.calls.specs.Run.{Entry, Run, begunOf, advanceFrom, runOf}
 use Rattle.calls.specs.Steps.{accessOf, afterOf, beginOf}
-use Rattle.calls.specs.Words.{cr2Of, alterOf}
-use Rattle.calls.specs.declared.Ack.the-variants.{AutoAck, ManualAck}
-use Rattle.calls.specs.declared.Call.{Call}
-use Rattle.calls.specs.declared.Call.the-variants.{Transaction, Write, WaitForTargetRead}
+use Rattle.calls.specs.Words.{cr2Of, timingrOf, oar1Of, oar2Of, alterOf}
+use Rattle.calls.specs.declared.AddressMode.{AddressMode}
+use Rattle.calls.specs.declared.AddressMode.the-variants.{AddressMode7bit, AddressMode10bit}
+use Rattle.calls.specs.declared.Configuration.{Configuration}
+use Rattle.calls.specs.declared.Configuration.the-variants.{Unconfigured, Configured}
 use Rattle.calls.specs.declared.Description.{Description}
 use Rattle.calls.specs.declared.Outcome.{Outcome}
-use Rattle.calls.specs.declared.Outcome.the-variants.{Done}
-use Rattle.calls.specs.declared.Step.{Step}
-use Rattle.calls.specs.declared.Step.the-variants.{Ended}
+use Rattle.calls.specs.declared.Outcome.the-variants.{Done, Bus, Arbitration, Nack, Stopped, ExpectedWrite, ExpectedRead, EventRead, EventWrite, EventStop}
+use Rattle.calls.specs.declared.Report.{Report}
+use Rattle.calls.specs.declared.Report.the-variants.{Over}
+use Rattle.calls.specs.declared.SavedCall.{SavedCall}
+use Rattle.calls.specs.declared.Step.the-variants.{Wait}
 
--- a call over its answers, to at most 60 accesses: its last step, its outcome, its log and the buffer
+-- what the bench prints of a call: how it ended, the answers used, the accesses, the buffer
 record Came : Type 0 where
-  step : Step
-  outcome : Outcome
-  log : List ℕ
+  report : Report
+  used : ℕ
+  log : List Entry
   buffer : List ℕ
 
 data Asked : Type 0 where
   word : Question → Asked
-  run : Call → ℕ → List ℕ → List ℕ → List ℕ → Asked
+  run : Description → List ℕ → List ℕ → SavedCall → List ℕ → ℕ → Asked
 
 data Answered : Type 0 where
   word : Answer → Answered
   run : Came → Answered
 
-abbrev addressed : ℕ → Description
-addressed a =
-    record {
-      call = 0;
-      address = a;
-      listen = 0;
-      timing = record { 0 = 0 };
-      config = record { own = 0; secondary = none; mask = none; ten = false };
-      ten = false;
-      configured = false;
-    }
+abbrev came : Run → Came
+came R = record { report = R .report; used = R .used; log = R .entries; buffer = R .buffer }
 
-abbrev came : Uncut → Came
-came U = record { step = U .saved .step; outcome = U .saved .outcome; log = wordsOf (U .log); buffer = U .buffer }
-
-abbrev runOver : Request → List ℕ → List ℕ → Came
-runOver q b l = came (uncutOf q 60 (beginOf q) b l)
-
+-- a call is advanced with the operations, the buffer, the saved call, the answers and a number of log places
 abbrev answerTo : Asked → Answered
 answerTo (word x) = word (ask x)
-answerTo (run c a ops b l) = run (runOver (record { call = c; words = addressed a; operations = ops; size = length b }) b l)
+answerTo (run d ops b s l places) = run (came (runOf d ops places s b l))
 
 record Row : Type 0 where
   asked : Asked
@@ -67,46 +58,190 @@ record Row : Type 0 where
 abbrev fromTiming : Case → Row
 fromTiming c = record { asked = word (c .question); answered = word (c .answer) }
 
-abbrev ended : Outcome → List ℕ → List ℕ → Answered
-ended o log b = run (record { step = Ended; outcome = o; log = log; buffer = b })
+-- call n with its argument as in a bench file: the address of 7, the listen kind of 4 and 5
+abbrev pub description : ℕ → ℕ → AddressMode → ℕ → Configuration → Description
+description n argument mode timing config =
+    record { call = n; address = argument; listen = argument; timing = record { 0 = timing }; config = config; mode = mode }
 
-abbrev table : List Row
-table =
-    map fromTiming cases
-    ++ record {
-      asked = run Transaction 0x50 (2 ∷ []) (0x12 ∷ 0x34 ∷ []) (1 ∷ 0x020200A0 ∷ 3 ∷ 3 ∷ 0x21 ∷ []);
-      answered = ended (Done 0)
-          (0x104 ∷ 0x020220A0 ∷ 0x18 ∷ 1 ∷ 0x04 ∷ 0x020200A0 ∷ 0x18 ∷ 3 ∷ 0x128 ∷ 0x12 ∷ 0x18 ∷ 3 ∷ 0x128 ∷ 0x34
-          ∷ 0x18 ∷ 0x21 ∷ 0x11C ∷ 0x20 ∷ [])
-          (0x12 ∷ 0x34 ∷ []);
+abbrev pub plain : ℕ → ℕ → Description
+plain n argument = description n argument AddressMode7bit 0 Unconfigured
+
+-- accesses as the bench prints them
+abbrev r : ℕ → ℕ → Entry
+r at v = record { code = at; value = v }
+
+abbrev w : ℕ → ℕ → Entry
+w at v = record { code = at + 0x100; value = v }
+
+-- A run with the operations and the buffer that it was lent, its end, its accesses, and the buffer after it: from the saved call s
+-- on. Its answers are what the reads gave, and the log has one place to spare.
+abbrev resumed : SavedCall → Description → List ℕ → List ℕ → Outcome → List Entry → List ℕ → Row
+resumed s d ops b o log after =
+    let l : List ℕ = answersIn log in
+    record {
+      asked = run d ops b s l (suc (length log));
+      answered = run (record { report = Over o; used = length l; log = log; buffer = after });
     }
-    -- not acknowledged at byte 0 of a block that is not the last: counts 0 after the whole flush
-    ∷ record {
-      asked = run (Write ManualAck) 0 [] (replicate 256 0x5A) (0 ∷ 0x11 ∷ 1 ∷ 1 ∷ []);
-      answered = ended (Done 0)
-          (0x04 ∷ 0 ∷ 0x104 ∷ 0x00FF0000 ∷ 0x11C ∷ 8 ∷ 0x18 ∷ 0x11 ∷ 0x11C ∷ 0x10 ∷ 0x18 ∷ 1 ∷ 0x18 ∷ 1 ∷ [])
-          (replicate 256 0x5A);
-    }
-    -- one byte, a filling zero, then NACK with TXIS: a flush, and the count is the length
-    ∷ record {
-      asked = run (Write AutoAck) 0 [] (0x5A ∷ []) (2 ∷ 2 ∷ 0x10 ∷ 2 ∷ 0 ∷ []);
-      answered = ended (Done 1)
-          (0x18 ∷ 2 ∷ 0x128 ∷ 0x5A ∷ 0x18 ∷ 2 ∷ 0x128 ∷ 0 ∷ 0x18 ∷ 0x10 ∷ 0x11C ∷ 0x10 ∷ 0x18 ∷ 2 ∷ 0x128 ∷ 0
-          ∷ 0x18 ∷ 0 ∷ 0x118 ∷ 1 ∷ [])
-          (0x5A ∷ []);
-    }
-    -- a manual write event at 0x21, then two bytes
-    ∷ record {
-      asked = run (WaitForTargetRead ManualAck) 0 [] (0 ∷ 0 ∷ [])
-          (0x00420009 ∷ 0x10001 ∷ 0x01FF0000 ∷ 1 ∷ 0 ∷ 0x01000000 ∷ 4 ∷ 0x1A5 ∷ 4 ∷ 0x2B6 ∷ []);
-      answered = ended (Done 2)
-          (0x18 ∷ 0x00420009 ∷ 0x00 ∷ 0x10001 ∷ 0x100 ∷ 1 ∷ 0x04 ∷ 0x01FF0000 ∷ 0x104 ∷ 0 ∷ 0x00 ∷ 1 ∷ 0x100 ∷ 0x10001
-          ∷ 0x04 ∷ 0 ∷ 0x104 ∷ 0x01000000 ∷ 0x04 ∷ 0x01000000 ∷ 0x104 ∷ 0x01020000 ∷ 0x11C ∷ 8
-          ∷ 0x18 ∷ 4 ∷ 0x24 ∷ 0x1A5 ∷ 0x18 ∷ 4 ∷ 0x24 ∷ 0x2B6 ∷ [])
-          (0xA5 ∷ 0xB6 ∷ []);
-    }
+
+-- and from begin
+abbrev ran : Description → List ℕ → List ℕ → Outcome → List Entry → List ℕ → Row
+ran d ops b o log after = resumed (begunOf d ops (length b) .saved) d ops b o log after
+
+abbrev transactions : List Row
+transactions =
+    -- document 01's run
+    ran (plain 7 0x50) (2 ∷ []) (0x12 ∷ 0x34 ∷ []) (Done 0)
+    (w 0x04 0x020220A0 ∷ r 0x18 1 ∷ r 0x04 0x020200A0 ∷ r 0x18 3 ∷ w 0x28 0x12 ∷ r 0x18 3 ∷ w 0x28 0x34
+    ∷ r 0x18 0x21 ∷ w 0x1C 0x20 ∷ [])
+    (0x12 ∷ 0x34 ∷ [])
+    -- Ten bits: `start` has no HEAD10R; `reload` no START, SADD or ADD10; `repeat_start` has HEAD10R. The start wait reads ISR
+    -- and CR2 again while START stands. TCR ends the first operation and not TC, TC the second and not TCR, STOPF the last. RXNE comes before
+    -- STOPF.
+    ∷ ran (description 7 0x2A5 AddressMode10bit 0 Unconfigured) (1 ∷ 1 ∷ 0x10001 ∷ []) (0x12 ∷ 0x34 ∷ 0 ∷ []) (Done 0)
+    (w 0x04 0x01012AA5 ∷ r 0x18 1 ∷ r 0x04 0x2000 ∷ r 0x18 1 ∷ r 0x04 0 ∷ r 0x18 3 ∷ w 0x28 0x12 ∷ r 0x18 0x40 ∷ r 0x18 0x80
+    ∷ w 0x04 0x00010000 ∷ r 0x18 1 ∷ r 0x04 0 ∷ r 0x18 3 ∷ w 0x28 0x34 ∷ r 0x18 0x80 ∷ r 0x18 0x40
+    ∷ w 0x04 0x02013EA5 ∷ r 0x18 1 ∷ r 0x04 0 ∷ r 0x18 0x24 ∷ r 0x24 0x5A ∷ r 0x18 0x40 ∷ r 0x18 0x20 ∷ w 0x1C 0x20 ∷ [])
+    (0x12 ∷ 0x34 ∷ 0x5A ∷ [])
+    -- seven bits: no HEAD10R in a repeated start
+    ∷ ran (plain 7 0x50) (1 ∷ 0x10001 ∷ []) (0x12 ∷ 0 ∷ []) (Done 0)
+    (w 0x04 0x000120A0 ∷ r 0x18 1 ∷ r 0x04 0 ∷ r 0x18 3 ∷ w 0x28 0x12 ∷ r 0x18 0x40
+    ∷ w 0x04 0x020124A0 ∷ r 0x18 1 ∷ r 0x04 0 ∷ r 0x18 4 ∷ r 0x24 0x15A ∷ r 0x18 0x20 ∷ w 0x1C 0x20 ∷ [])
+    (0x12 ∷ 0x5A ∷ [])
+    -- BERR comes before ARLO and NACKF; the wait for STOPF after an error keeps it
+    ∷ ran (plain 7 0x50) (1 ∷ []) (0x12 ∷ []) Bus
+    (w 0x04 0x020120A0 ∷ r 0x18 0x310 ∷ w 0x1C 0x100 ∷ r 0x18 0x20 ∷ w 0x1C 0x20 ∷ [])
+    (0x12 ∷ [])
+    -- NACKF comes before TXIS; the flush writes TXDR where TXIS is set, and not ISR where TXE is 1; an error in the wait for STOPF comes before
+    -- STOPF, and takes the place of the first
+    ∷ ran (plain 7 0x50) (2 ∷ []) (0x12 ∷ 0x34 ∷ []) Arbitration
+    (w 0x04 0x020220A0 ∷ r 0x18 1 ∷ r 0x04 0 ∷ r 0x18 0x13 ∷ w 0x1C 0x10 ∷ r 0x18 3 ∷ w 0x28 0 ∷ r 0x18 1
+    ∷ r 0x18 0 ∷ r 0x18 0x220 ∷ w 0x1C 0x200 ∷ [])
+    (0x12 ∷ 0x34 ∷ [])
+    -- NACKF comes before STOPF; the flush writes no TXDR where TXIS is 0, and ISR where TXE is 0
+    ∷ ran (plain 7 0x50) (1 ∷ []) (0x12 ∷ []) Nack
+    (w 0x04 0x020120A0 ∷ r 0x18 1 ∷ r 0x04 0 ∷ r 0x18 3 ∷ w 0x28 0x12 ∷ r 0x18 0x31 ∷ w 0x1C 0x10 ∷ r 0x18 0 ∷ r 0x18 0 ∷ w 0x18 1
+    ∷ r 0x18 0x20 ∷ w 0x1C 0x20 ∷ [])
+    (0x12 ∷ [])
+    -- a NACK in the wait for STOPF is the newer error
+    ∷ ran (plain 7 0x50) (0x10001 ∷ []) (0 ∷ []) Nack
+    (w 0x04 0x020124A0 ∷ r 0x18 0x101 ∷ w 0x1C 0x100 ∷ r 0x18 0x30 ∷ w 0x1C 0x10 ∷ r 0x18 1 ∷ r 0x18 1 ∷ [])
+    (0 ∷ [])
+    -- byte in: NACKF is not looked at, ADDR without RXNE gives stopped
+    ∷ ran (plain 7 0x50) (0x10001 ∷ []) (0 ∷ []) Stopped
+    (w 0x04 0x020124A0 ∷ r 0x18 1 ∷ r 0x04 0 ∷ r 0x18 0x10 ∷ r 0x18 8 ∷ r 0x18 1 ∷ r 0x18 0x21 ∷ w 0x1C 0x20 ∷ [])
+    (0 ∷ [])
     ∷ []
 
+abbrev events : List Row
+events =
+    -- ADDR comes before STOPF; AutoAck clears ADDR before it finds the address; ADDCODE 0x7B is a ten-bit header, and OA1 has ten bits
+    ran (plain 8 0) [] [] (EventRead 0xA5) (r 0x18 0x00F70029 ∷ w 0x1C 8 ∷ r 0x08 0x84A5 ∷ []) []
+    -- ADDCODE 0x7C is none; ManualAck and DIR 0: SBC off, RELOAD and NBYTES off, SBC on, RELOAD on
+    ∷ ran (plain 24 0) [] [] (EventWrite 0x7C)
+    (r 0x18 0x00F80009 ∷ r 0x00 0x10000 ∷ w 0x00 0 ∷ r 0x04 0xFFFFFFFF ∷ w 0x04 0xFE00FFFF
+    ∷ r 0x00 0 ∷ w 0x00 0x10000 ∷ r 0x04 0 ∷ w 0x04 0x01000000 ∷ [])
+    []
+    -- ManualAck and DIR 1 with TXE 0: ISR 1, SBC off, RELOAD and NBYTES off, the address, ADDRCF
+    ∷ ran (plain 24 0) [] [] (EventRead 0x2A5)
+    (r 0x18 0x00F10028 ∷ w 0x18 1 ∷ r 0x00 0xFFFFFFFF ∷ w 0x00 0xFFFEFFFF ∷ r 0x04 0 ∷ w 0x04 0 ∷ r 0x08 0x2A5 ∷ w 0x1C 8 ∷ [])
+    []
+    -- an event of neither flag is awaited; a stop
+    ∷ ran (plain 8 0) [] [] EventStop (r 0x18 0 ∷ r 0x18 0x10 ∷ r 0x18 0x21 ∷ w 0x1C 0x20 ∷ []) []
+    -- events that do not fit 11, 12 and 13
+    ∷ ran (plain 11 0) [] (0 ∷ []) ExpectedWrite (r 0x18 0x00430009 ∷ w 0x1C 8 ∷ []) (0 ∷ [])
+    ∷ ran (plain 27 0) [] (0 ∷ []) Stopped (r 0x18 0x20 ∷ w 0x1C 0x20 ∷ []) (0 ∷ [])
+    ∷ ran (plain 12 0) [] (1 ∷ []) ExpectedRead (r 0x18 0x00420009 ∷ w 0x1C 8 ∷ []) (1 ∷ [])
+    ∷ ran (plain 12 0) [] (1 ∷ []) Stopped (r 0x18 0x20 ∷ w 0x1C 0x20 ∷ []) (1 ∷ [])
+    ∷ ran (plain 13 0) [] [] ExpectedWrite (r 0x18 0x00430009 ∷ w 0x1C 8 ∷ []) []
+    ∷ ran (plain 13 0) [] [] ExpectedRead (r 0x18 0x00420009 ∷ w 0x1C 8 ∷ []) []
+    ∷ ran (plain 13 0) [] [] (Done 0) (r 0x18 0x21 ∷ w 0x1C 0x20 ∷ []) []
+    ∷ []
+
+abbrev transfers : List Row
+transfers =
+    -- not acknowledged at byte 0 of a block that is not the last: counts 0 after the whole flush
+    ran (plain 26 0) [] (replicate 256 0x5A) (Done 0)
+    (r 0x04 0 ∷ w 0x04 0x00FF0000 ∷ w 0x1C 8 ∷ r 0x18 0x11 ∷ w 0x1C 0x10 ∷ r 0x18 1 ∷ r 0x18 1 ∷ [])
+    (replicate 256 0x5A)
+    -- one byte, a filling zero, then NACK with TXIS: a flush, and the count is the length
+    ∷ ran (plain 10 0) [] (0x5A ∷ []) (Done 1)
+    (r 0x18 2 ∷ w 0x28 0x5A ∷ r 0x18 2 ∷ w 0x28 0 ∷ r 0x18 0x10 ∷ w 0x1C 0x10 ∷ r 0x18 2 ∷ w 0x28 0 ∷ r 0x18 0 ∷ w 0x18 1 ∷ [])
+    (0x5A ∷ [])
+    -- a manual write event at 0x21, then two bytes
+    ∷ ran (plain 27 0) [] (0 ∷ 0 ∷ []) (Done 2)
+    (r 0x18 0x00420009 ∷ r 0x00 0x10001 ∷ w 0x00 1 ∷ r 0x04 0x01FF0000 ∷ w 0x04 0 ∷ r 0x00 1 ∷ w 0x00 0x10001
+    ∷ r 0x04 0 ∷ w 0x04 0x01000000 ∷ r 0x04 0x01000000 ∷ w 0x04 0x01020000 ∷ w 0x1C 8
+    ∷ r 0x18 4 ∷ r 0x24 0x1A5 ∷ r 0x18 4 ∷ r 0x24 0x2B6 ∷ [])
+    (0xA5 ∷ 0xB6 ∷ [])
+    -- a read event at a ten-bit header, then a byte: one put out, none counted
+    ∷ ran (plain 12 0) [] (0x5A ∷ []) (Done 0)
+    (r 0x18 0x00F50009 ∷ w 0x1C 8 ∷ r 0x08 0x6A5 ∷ r 0x18 3 ∷ w 0x28 0x5A ∷ r 0x18 0x11 ∷ w 0x1C 0x10 ∷ r 0x18 1 ∷ r 0x18 1 ∷ [])
+    (0x5A ∷ [])
+    -- a manual read event: ADDRCF is cleared in the event, and again after NBYTES
+    ∷ ran (plain 28 0) [] (0x5A ∷ []) (Done 1)
+    (r 0x18 0x00430009 ∷ r 0x00 0x10001 ∷ w 0x00 1 ∷ r 0x04 0x01FF0000 ∷ w 0x04 0 ∷ w 0x1C 8 ∷ r 0x04 0 ∷ w 0x04 0x00010000 ∷ w 0x1C 8
+    ∷ r 0x18 3 ∷ w 0x28 0x5A ∷ r 0x18 3 ∷ w 0x28 0 ∷ r 0x18 0x11 ∷ w 0x1C 0x10 ∷ r 0x18 1 ∷ r 0x18 1 ∷ [])
+    (0x5A ∷ [])
+    -- RXNE comes before STOPF and ADDR; a read that is stopped early sets NACK in CR2
+    ∷ ran (plain 9 0) [] (0 ∷ 0 ∷ []) (Done 1)
+    (r 0x18 0x2D ∷ r 0x24 0x15A ∷ r 0x18 8 ∷ r 0x04 0x04000000 ∷ w 0x04 0x04008000 ∷ [])
+    (0x5A ∷ 0 ∷ [])
+    -- so does one that is full, after an event with TXE 0
+    ∷ ran (plain 11 0) [] (0 ∷ []) (Done 1)
+    (r 0x18 0x00420008 ∷ w 0x18 1 ∷ w 0x1C 8 ∷ r 0x18 4 ∷ r 0x24 0x77 ∷ r 0x04 0 ∷ w 0x04 0x8000 ∷ [])
+    (0x77 ∷ [])
+    -- but not after an error
+    ∷ ran (plain 9 0) [] (0 ∷ []) Arbitration (r 0x18 0x200 ∷ w 0x1C 0x200 ∷ []) (0 ∷ [])
+    -- nor with ManualAck
+    ∷ ran (plain 25 0) [] (0 ∷ 0 ∷ []) (Done 1)
+    (r 0x04 0xFFFFFFFF ∷ w 0x04 0xFF02FFFF ∷ w 0x1C 8 ∷ r 0x18 4 ∷ r 0x24 0x77 ∷ r 0x18 0x20 ∷ [])
+    (0x77 ∷ 0 ∷ [])
+    -- two filling zeros: the count is capped at the length
+    ∷ ran (plain 10 0) [] (0x5A ∷ []) (Done 1)
+    (r 0x18 2 ∷ w 0x28 0x5A ∷ r 0x18 2 ∷ w 0x28 0 ∷ r 0x18 2 ∷ w 0x28 0 ∷ r 0x18 0x10 ∷ w 0x1C 0x10 ∷ r 0x18 0 ∷ r 0x18 1 ∷ [])
+    (0x5A ∷ [])
+    -- after 254 bytes of the first block, the end of a run of 523 accesses: NBYTES is set anew, ADDRCF is not cleared again, a zero follows
+    -- the last byte
+    ∷ resumed (record { call = 26; piece = 0; byte = 254; word = 0; accesses = 511; outcome = Done 0; step = Wait })
+    (plain 26 0) [] (replicate 256 0x5A) (Done 256)
+    (r 0x18 2 ∷ w 0x28 0x5A ∷ r 0x04 0x00FF0000 ∷ w 0x04 0x00010000 ∷ r 0x18 2 ∷ w 0x28 0x5A ∷ r 0x18 2 ∷ w 0x28 0
+    ∷ r 0x18 0x10 ∷ w 0x1C 0x10 ∷ r 0x18 1 ∷ r 0x18 1 ∷ [])
+    (replicate 256 0x5A)
+    ∷ []
+
+-- set up, listening, reset, and the ends of a manual transfer
+abbrev controls : List Row
+controls =
+    -- CR1 is read twice, whatever it says, then until PE is 0
+    ran (plain 6 0) [] [] (Done 0)
+    (r 0x00 0xFFFFFFFF ∷ w 0x00 0xFFFFFFFE ∷ r 0x00 0 ∷ r 0x00 0 ∷ r 0x00 1 ∷ r 0x00 0 ∷ r 0x00 0x1000 ∷ w 0x00 0x1001 ∷ [])
+    []
+    -- call 1 writes CR1 anew, and TIMINGR without bits 24 to 27
+    ∷ ran (description 1 0 AddressMode7bit 0x6FFB1C39 Unconfigured) [] [] (Done 0)
+    (r 0x00 0xFFFFFFFF ∷ w 0x00 0xFFFFFFFE ∷ w 0x10 0x60FB1C39 ∷ w 0x00 1 ∷ [])
+    []
+    -- and OAR1 before that, where it has a configuration
+    ∷ ran (description 1 0 AddressMode7bit 0x60FB1C39 (Configured (configOf 0x42))) [] [] (Done 0)
+    (r 0x00 0xFFFFFFFF ∷ w 0x00 0xFFFFFFFE ∷ w 0x10 0x60FB1C39 ∷ w 0x08 0x84 ∷ w 0x00 1 ∷ [])
+    []
+    -- call 2 writes neither SCLL nor SCLH, and changes PE and ANFOFF alone
+    ∷ ran (description 2 0 AddressMode7bit 0xFFFFFFFF (Configured (withMask 2 (withSecondary 0x21 (withMode AddressMode10bit (configOf 0x2A5)))))) [] [] (Done 0)
+    (r 0x00 0xFFFFFFFF ∷ w 0x00 0xFFFFFFFE ∷ w 0x10 0xF0FF0000 ∷ w 0x08 0x6A5 ∷ w 0x0C 0x342 ∷ r 0x00 0xFFFFFFFE ∷ w 0x00 0xFFFFEFFF ∷ [])
+    []
+    -- a secondary address without a mask
+    ∷ ran (description 3 0 AddressMode7bit 0 (Configured (withSecondary 0x21 (configOf 0x42)))) [] [] (Done 0) (w 0x08 0x84 ∷ w 0x0C 0x42 ∷ []) []
+    -- 4 enables and 5 disables, kinds 0 to 2 in CR1, OAR1 and OAR2
+    ∷ ran (plain 4 0) [] [] (Done 0) (r 0x00 0 ∷ w 0x00 0x00080000 ∷ []) []
+    ∷ ran (plain 4 1) [] [] (Done 0) (r 0x08 0x84 ∷ w 0x08 0x8084 ∷ []) []
+    ∷ ran (plain 5 2) [] [] (Done 0) (r 0x0C 0xFFFFFFFF ∷ w 0x0C 0xFFFF7FFF ∷ []) []
+    -- 14 ends the transfer, 15 sets NACK before that
+    ∷ ran (plain 14 0) [] [] (Done 0) (r 0x04 0xFFFFFFFF ∷ w 0x04 0xFEFFFFFF ∷ []) []
+    ∷ ran (plain 15 0) [] [] (Done 0) (r 0x04 0 ∷ w 0x04 0x8000 ∷ r 0x04 0xFFFFFFFF ∷ w 0x04 0xFEFFFFFF ∷ []) []
+    ∷ []
+
+abbrev table : List Row
+table = map fromTiming cases ++ transactions ++ events ++ transfers ++ controls
+
 proved-cases : map (λ (r : Row). answerTo (r .asked)) table ≡ map (λ (r : Row). r .answered) table
-unfolding timingOf bandOf inBandOf equalAt doubleAt getOf bitsAt putOf withBits unpackOf call kinds manual piecesFor cr2Of alterOf accessOf afterOf beginOf uncutOf
+unfolding timingOf bandOf inBandOf equalAt doubleAt getOf bitsAt putOf withBits unpackOf call kinds manual piecesFor lookupOf verdictOf checkOf hasIn accepts begunOf advanceFrom runOf cr2Of timingrOf oar1Of oar2Of alterOf accessOf afterOf beginOf
 proved-cases = refl

@@ -12,7 +12,7 @@ use Rattle.calls.specs.Bytes.{writeCount, EndedAs, Count}
 use Rattle.calls.specs.Calls.{Request, call, kinds, manual, transaction, receives, transmits}
 use Rattle.calls.specs.Outcomes.{isDone}
 use Rattle.calls.specs.Pieces.{blocksOf, piecesOf, pieceAt, viewOf}
-use Rattle.calls.specs.Refusals.{listed, takes, has, hasIn, own, second, enable, peOn, listen, reloadOff}
+use Rattle.calls.specs.Refusals.{listed, takes, has, hasIn, timing, own, second, enable, peOn, listen, reloadOff}
 use Rattle.calls.specs.Run.{Entry, byteOf, outOf, inOf, Uncut, uncutOf, putOut, takenIn}
 use Rattle.calls.specs.Steps.{countOf, awaited, waitAt, byteMoved, thenAt, applyOf, counted, noted, accessAt, accessOf, afterOf, beginOf, is}
 use Rattle.calls.specs.declared.Access.the-variants.{Take, Write}
@@ -98,7 +98,7 @@ module _ (q : Request) (s : SavedCall) (a : ℕ) (x : T (target q)) where
   counts FlushByte h k = search table depth 16
   counts FlushTxe h k = search table depth 16
   counts Flush h k = search table depth 16
-  counts Timing h k = search table depth 16
+  counts Timing h k = absurd (absent q (λ r. has r timing) tt x k)
   counts Own h k = absurd (absent q (λ r. has r own) tt x k)
   counts Secondary h k = absurd (absent q (λ r. has r second) tt x k)
   counts Enable h k = absurd (absent q (λ r. has r enable) tt x k)

@@ -8,7 +8,7 @@ use mathlib.Core.List.{List, [], _∷_}
 use lib.Dec.{T, T-not, ltb→lt}
 use lib.ListN.{length}
 use Rattle.fields.proofs.Laws.{and-l, and-r}
-use Rattle.calls.specs.Calls.{Request, call, kinds, transaction, manual, receives, transmits, eventful, configured}
+use Rattle.calls.specs.Calls.{Request, call, kinds, transaction, manual, receives, transmits, eventful}
 use Rattle.calls.specs.Outcomes.{isDone}
 use Rattle.calls.specs.Pieces.{Piece, blocksOf, piecesFor, piecesOf, pieceAt, viewOf}
 use Rattle.calls.specs.Steps.{failing, awaited, waitAt, entryStep, clearStep, thenAt, is}
@@ -116,13 +116,9 @@ module _ (q : Request) where
   unfolding hasIn call
   timing-in = implied q (λ r. has r peOff && not (call (r .call) 6)) (λ r. has r timing) tt
 
-  own-in : T (has q timing) → T (call (q .call) 1 || (call (q .call) 2 || call (q .call) 3))
+  own-in : T (has q own) → T (call (q .call) 1 || (call (q .call) 2 || call (q .call) 3))
   unfolding hasIn call
-  own-in = implied q (λ r. has r timing) (λ r. call (r .call) 1 || (call (r .call) 2 || call (r .call) 3)) tt
-
-  enable-in : T (has q timing && not (configured (q .call) (q .words))) → T (has q enable)
-  unfolding hasIn call
-  enable-in = implied q (λ r. has r timing && not (configured (r .call) (r .words))) (λ r. has r enable) tt
+  own-in = implied q (λ r. has r own) (λ r. call (r .call) 1 || (call (r .call) 2 || call (r .call) 3)) tt
 
 -- all pieces of a target call go its way
 pub block-reads : (w : Bool) (f n i : ℕ) → i < length (blocksOf w f n) → pieceAt (blocksOf w f n) i .reads ≡ w
@@ -254,8 +250,8 @@ module _ (q : Request) (s : SavedCall) (a : ℕ) where
   row FlushByte p h k o = search table depth 16
   row FlushTxe p h k o = search table depth 16
   row Flush p h k o = search table depth 16
-  row Timing p h k o = search (table, own-in, enable-in) depth 16
-  row Own p h k o = search table depth 16
+  row Timing p h k o = search table depth 16
+  row Own p h k o = search (table, own-in) depth 16
   row Secondary p h k o = search table depth 16
   row Enable p h k o = search table depth 16
   row Delay1 p h k o = search table depth 16

@@ -14,4 +14,8 @@ pub mod Cut
 pub mod Demand
 pub mod Joined
 pub mod Ends
+pub mod Plain
+pub mod Restated
 pub mod Cases
+pub mod Worked
+pub mod Setters

@@ -132,7 +132,7 @@ rising-piece m n end true at zero ks h g i r = rising-from m end n ks (omega ari
 rising-piece m n end true at (suc size) ks h g i r =
     (h, omega arith, rising-piece (at + 1) n end true (at + 1) size ks (omega arith) (omega arith) i r)
 
-rising-places : (n : ℕ) (w : Bool) (at : ℕ) (ps : List Piece) → at + sizes ps ≤ n → Rising at n (placesFrom w at ps)
+pub rising-places : (n : ℕ) (w : Bool) (at : ℕ) (ps : List Piece) → at + sizes ps ≤ n → Rising at n (placesFrom w at ps)
 rising-places n w at [] h = tt
 rising-places n w at (p ∷ ps) h =
     rising-piece at n (at + p .size) (Bool·beq (p .reads) w) at (p .size) (placesFrom w (at + p .size) ps)
@@ -161,18 +161,20 @@ storeAt b ks [] = b
 storeAt b [] (v ∷ vs) = b
 storeAt b (k ∷ ks) (v ∷ vs) = storeAt (set b k v) ks vs
 
-abbrev NotIn : ℕ → List ℕ → Type 0
+abbrev pub NotIn : ℕ → List ℕ → Type 0
 NotIn i ks = T (not (anyOf (eqb i) ks))
 
-not-in : (i m n : ℕ) (ks : List ℕ) → i < m → Rising m n ks → NotIn i ks
-not-in i m n [] h r = tt
-not-in i m n (k ∷ ks) h r =
-    nor (eqb i k) (anyOf (eqb i) ks) (not-T (eqb i k) (λ e. omega (arith, eqb→eq i k e, r .0)))
-    (not-in i (k + 1) n ks (omega (arith, r .0)) (r .2))
+pub not-in-cons : (i k : ℕ) (ks : List ℕ) → i ≢ k → NotIn i ks → NotIn i (k ∷ ks)
+not-in-cons i k ks h g = nor (eqb i k) (anyOf (eqb i) ks) (not-T (eqb i k) (λ e. h (eqb→eq i k e))) g
   where
     nor : (x y : Bool) → T (not x) → T (not y) → T (not (x || y))
     nor true y h g = h
     nor false y h g = g
+
+pub not-in : (i m n : ℕ) (ks : List ℕ) → i < m → Rising m n ks → NotIn i ks
+not-in i m n [] h r = tt
+not-in i m n (k ∷ ks) h r =
+    not-in-cons i k ks (λ e. omega (arith, e, r .0)) (not-in i (k + 1) n ks (omega (arith, r .0)) (r .2))
 
 not-this : (i k : ℕ) (ks : List ℕ) → NotIn i (k ∷ ks) → i ≢ k
 not-this i k ks h e = T-not (eqb i k) (nor-0 (eqb i k) (anyOf (eqb i) ks) h) (rw e (eqb-refl k))
@@ -273,7 +275,7 @@ transfer-places q w n =
     (λ x. rw (no-pieces q n x, is-false (receives (q .call) || transmits (q .call)) x))
 
 -- and its bytes the buffer's
-bytes-range : (b : List ℕ) (i n : ℕ) → i + n ≤ length b → bytesAt b (range i n) ≡ take n (drop i b)
+pub bytes-range : (b : List ℕ) (i n : ℕ) → i + n ≤ length b → bytesAt b (range i n) ≡ take n (drop i b)
 bytes-range b i zero h = refl
 bytes-range b i (suc n) h =
     let k : i < length b = omega arith in

@@ -1,7 +1,7 @@
 -- The listed calls with document 01's numbers, what each has to do with bytes and events, and what is asked of one.
 -- Assumes nothing.
 use Prim.Native.Nat.{ℕ, _+_}
-use mathlib.Core.Bool.{Bool, true, false, not, _||_}
+use mathlib.Core.Bool.{Bool, true, false, _||_}
 use mathlib.Core.List.{List}
 use lib.Dec.{eqb, leb}
 use Rattle.calls.specs.declared.Ack.{Ack}
@@ -9,8 +9,13 @@ use Rattle.calls.specs.declared.Ack.the-variants.{AutoAck, ManualAck}
 use Rattle.calls.specs.declared.Call.{Call}
 use Rattle.calls.specs.declared.Call.the-variants.{New, TargetNew, ConfigureTargetAddresses, EnableTargetEvent, DisableTargetEvent, Reset, Transaction, WaitForEvent, Read, Write, WaitForTargetRead, WaitForTargetWrite, WaitForStop, AckTransfer, NackTransfer}
 use Rattle.calls.specs.declared.AddressMode.{AddressMode}
-use Rattle.calls.specs.declared.AddressMode.the-variants.{AddressMode7bit, AddressMode10bit}
+use Rattle.calls.specs.declared.AddressMode.the-variants.{AddressMode7bit}
+use Rattle.calls.specs.declared.SecondaryAddress.{SecondaryAddress}
+use Rattle.calls.specs.declared.SecondaryAddress.the-variants.{NoSecondary, Secondary}
+use Rattle.calls.specs.declared.MaskBits.the-variants.{Unmasked, Masked}
 use Rattle.calls.specs.declared.TargetConfig.{TargetConfig}
+use Rattle.calls.specs.declared.Configuration.{Configuration}
+use Rattle.calls.specs.declared.Configuration.the-variants.{Unconfigured, Configured}
 use Rattle.calls.specs.declared.Description.{Description}
 
 -- 8 to 13 mean AutoAck; adding 16 means ManualAck
@@ -36,27 +41,20 @@ numberOf AckTransfer = 14
 numberOf NackTransfer = 15
 
 -- The target's configuration, and what its setters change.
-abbrev pub none : ℕ
-none = 0xFFFFFFFF
-
 abbrev pub configOf : ℕ → TargetConfig
-configOf own = record { own = own; secondary = none; mask = none; ten = false }
-
-abbrev pub tenBit : AddressMode → Bool
-tenBit AddressMode7bit = false
-tenBit AddressMode10bit = true
+configOf own = record { own = own; secondary = NoSecondary; mask = Unmasked; mode = AddressMode7bit }
 
 abbrev pub withOwn : ℕ → TargetConfig → TargetConfig
-withOwn own c = record { own = own; secondary = c .secondary; mask = c .mask; ten = c .ten }
+withOwn own t = record { own = own; secondary = t .secondary; mask = t .mask; mode = t .mode }
 
 abbrev pub withMode : AddressMode → TargetConfig → TargetConfig
-withMode m c = record { own = c .own; secondary = c .secondary; mask = c .mask; ten = tenBit m }
+withMode mode t = record { own = t .own; secondary = t .secondary; mask = t .mask; mode = mode }
 
 abbrev pub withSecondary : ℕ → TargetConfig → TargetConfig
-withSecondary address c = record { own = c .own; secondary = address; mask = c .mask; ten = c .ten }
+withSecondary address t = record { own = t .own; secondary = Secondary address; mask = t .mask; mode = t .mode }
 
 abbrev pub withMask : ℕ → TargetConfig → TargetConfig
-withMask bits c = record { own = c .own; secondary = c .secondary; mask = bits; ten = c .ten }
+withMask bits t = record { own = t .own; secondary = t .secondary; mask = Masked bits; mode = t .mode }
 
 -- by its number
 unfoldable pub call : Call → ℕ → Bool
@@ -82,15 +80,18 @@ transmits c = kinds c 10 || kinds c 12
 abbrev pub eventful : Call → Bool
 eventful c = kinds c 8 || (kinds c 11 || (kinds c 12 || kinds c 13))
 
--- calls 2 and 3 always have a configuration, 1 where it is meant
-abbrev pub configured : Call → Description → Bool
-configured c d = not (call c 1) || d .configured
+-- what a description may have or lack: a configuration, and in it a secondary address
+abbrev pub isConfigured : Configuration → Bool
+isConfigured Unconfigured = false
+isConfigured (Configured t) = true
 
-abbrev pub hasSecondary : Description → Bool
-hasSecondary d = not (eqb (d .config .secondary) none)
+abbrev pub isSecondary : SecondaryAddress → Bool
+isSecondary NoSecondary = false
+isSecondary (Secondary address) = true
 
-abbrev pub hasMask : Description → Bool
-hasMask d = not (eqb (d .config .mask) none)
+abbrev pub hasSecondary : Configuration → Bool
+hasSecondary Unconfigured = false
+hasSecondary (Configured t) = isSecondary (t .secondary)
 
 -- A listed call with all that describes it: the words, the operation list, and the lent buffer's length.
 pub record Request : Type 0 where

@@ -6,21 +6,29 @@ use mathlib.Core.List.{List, [], _∷_}
 use lib.Dec.{eqb, ltb, leb}
 use lib.ListN.{length}
 use Rattle.fields.specs.Field.{place, getOf}
-use Rattle.calls.specs.Calls.{Request, numberOf, call, transaction, manual, receives, transmits, eventful, configured, hasSecondary, hasMask}
+use Rattle.calls.specs.Calls.{Request, numberOf, call, transaction, manual, receives, transmits, eventful, isConfigured, hasSecondary}
 use Rattle.calls.specs.Pieces.{operation-length, piecesOf, viewAt, viewOf, there}
 use Rattle.calls.specs.Steps.{is}
 use Rattle.calls.specs.declared.Ack.the-variants.{AutoAck, ManualAck}
+use Rattle.calls.specs.declared.AddressMode.{AddressMode}
+use Rattle.calls.specs.declared.AddressMode.the-variants.{AddressMode7bit, AddressMode10bit}
 use Rattle.calls.specs.declared.Call.{Call}
 use Rattle.calls.specs.declared.Call.the-variants.{New, TargetNew, ConfigureTargetAddresses, EnableTargetEvent, DisableTargetEvent, Reset, Transaction, WaitForEvent, Read, Write, WaitForTargetRead, WaitForTargetWrite, WaitForStop, AckTransfer, NackTransfer}
+use Rattle.calls.specs.declared.Configuration.{Configuration}
+use Rattle.calls.specs.declared.Configuration.the-variants.{Unconfigured, Configured}
 use Rattle.calls.specs.declared.Description.{Description}
 use Rattle.calls.specs.declared.Lookup.{Lookup}
 use Rattle.calls.specs.declared.Lookup.the-variants.{Listed, Unlisted}
+use Rattle.calls.specs.declared.MaskBits.{MaskBits}
+use Rattle.calls.specs.declared.MaskBits.the-variants.{Unmasked, Masked}
 use Rattle.calls.specs.declared.Modify.{Modify}
 use Rattle.calls.specs.declared.Modify.the-variants.{PeOff, PeOn, Listen, NackSet, ReloadOff, SbcOff, ReloadClear, SbcOn, ReloadOn, NbytesSet}
 use Rattle.calls.specs.declared.Refusal.the-variants.{NoSuchCall, Address, List as BadList, Long, Buffer}
 use Rattle.calls.specs.declared.SavedCall.{SavedCall}
+use Rattle.calls.specs.declared.SecondaryAddress.{SecondaryAddress}
+use Rattle.calls.specs.declared.SecondaryAddress.the-variants.{NoSecondary, Secondary}
 use Rattle.calls.specs.declared.Step.{Step}
-use Rattle.calls.specs.declared.Step.the-variants.{Ended, Begin, StartStatus, StartControl, Wait, Byte, StopClear, BusClear, ArbitrationClear, NackClear, FlushTxis, FlushByte, FlushTxe, Flush, Timing, Own, Secondary, Enable, Delay1, Delay2, Disabled, Event, EventFlush, EventClear, Address as FindAddress, TransferClear, ModifyRead, ModifyWrite}
+use Rattle.calls.specs.declared.Step.the-variants.{Ended, Begin, StartStatus, StartControl, Wait, Byte, StopClear, BusClear, ArbitrationClear, NackClear, FlushTxis, FlushByte, FlushTxe, Flush, Timing, Own, Secondary as SecondaryStep, Enable, Delay1, Delay2, Disabled, Event, EventFlush, EventClear, Address as FindAddress, TransferClear, ModifyRead, ModifyWrite}
 use Rattle.calls.specs.declared.Verdict.{Verdict}
 use Rattle.calls.specs.declared.Verdict.the-variants.{Accepted, Refused}
 
@@ -40,23 +48,41 @@ lookupIn (c ∷ cs) n = cond (eqb n (numberOf c)) (Listed c) (lookupIn cs n)
 unfoldable pub lookupOf : ℕ → Lookup
 lookupOf n = lookupIn listed n
 
--- 12, no such call: the number is not listed, or calls 4 and 5 name none of the three listen kinds
+-- 12, no such call: the number is not listed, calls 4 and 5 name none of the three listen kinds, or 2 and 3 have no
+-- configuration
 abbrev pub noSuchListenKind : Call → Description → Bool
 noSuchListenKind c d = (call c 4 || call c 5) && ltb 2 (d .listen)
 
--- 8, address: one that does not fit its seven or ten bits, or a mask of more than six bits
-abbrev pub tooWide : Bool → ℕ → Bool
-tooWide ten address = ltb (cond ten 1023 127) address
+abbrev pub noConfiguration : Call → Description → Bool
+noConfiguration c d = (call c 2 || call c 3) && not (isConfigured (d .config))
 
-abbrev pub configWide : Description → Bool
-configWide d =
-    tooWide (d .config .ten) (d .config .own)
-    || ((hasSecondary d && tooWide false (d .config .secondary)) || (hasMask d && ltb 6 (d .config .mask)))
+abbrev pub noSuchCall : Call → Description → Bool
+noSuchCall c d = noSuchListenKind c d || noConfiguration c d
+
+-- 8, address: one that does not fit its seven or ten bits, or a mask of more than six bits
+abbrev pub widest : AddressMode → ℕ
+widest AddressMode7bit = 127
+widest AddressMode10bit = 1023
+
+abbrev pub tooWide : AddressMode → ℕ → Bool
+tooWide mode address = ltb (widest mode) address
+
+abbrev pub secondaryWide : SecondaryAddress → Bool
+secondaryWide NoSecondary = false
+secondaryWide (Secondary address) = tooWide AddressMode7bit address
+
+abbrev pub maskWide : MaskBits → Bool
+maskWide Unmasked = false
+maskWide (Masked bits) = ltb 6 bits
+
+abbrev pub configWide : Configuration → Bool
+configWide Unconfigured = false
+configWide (Configured t) = tooWide (t .mode) (t .own) || (secondaryWide (t .secondary) || maskWide (t .mask))
 
 abbrev pub addressWide : Call → Description → Bool
 addressWide c d =
-    (transaction c && tooWide (d .ten) (d .address))
-    || (((call c 1 || (call c 2 || call c 3)) && configured c d) && configWide d)
+    (transaction c && tooWide (d .mode) (d .address))
+    || ((call c 1 || (call c 2 || call c 3)) && configWide (d .config))
 
 -- 10, list: more than 64 operations, a word with bits that mean nothing, or lengths that do not make up the buffer
 abbrev pub lengthOf : ℕ → ℕ
@@ -89,7 +115,7 @@ bufferWrong c n = ((call c 9 || (call c 10 || (call c 11 || call c 12))) && eqb 
 
 unfoldable pub verdictOf : Request → Verdict
 verdictOf q =
-    cond (noSuchListenKind (q .call) (q .words)) (Refused NoSuchCall)
+    cond (noSuchCall (q .call) (q .words)) (Refused NoSuchCall)
     (cond (addressWide (q .call) (q .words)) (Refused Address)
     (cond (listWrong (q .call) (q .operations) (q .size)) (Refused BadList)
     (cond (operationLong (q .call) (q .operations)) (Refused Long)
@@ -144,7 +170,7 @@ groupOf FlushTxe = nack
 groupOf Flush = nack
 groupOf Timing = timing
 groupOf Own = own
-groupOf Secondary = second
+groupOf SecondaryStep = second
 groupOf Enable = enable
 groupOf Delay1 = reset
 groupOf Delay2 = reset
@@ -166,8 +192,8 @@ hasIn c d some stop = eventful c || (transaction c && some)
 hasIn c d some errors = eventful c || ((transaction c || (receives c || transmits c)) && some)
 hasIn c d some nack = (transaction c || transmits c) && some
 hasIn c d some timing = call c 1 || call c 2
-hasIn c d some own = (call c 1 || (call c 2 || call c 3)) && configured c d
-hasIn c d some second = (call c 1 || (call c 2 || call c 3)) && (configured c d && hasSecondary d)
+hasIn c d some own = call c 3 || ((call c 1 || call c 2) && isConfigured (d .config))
+hasIn c d some second = (call c 1 || (call c 2 || call c 3)) && hasSecondary (d .config)
 hasIn c d some enable = call c 1
 hasIn c d some reset = call c 6
 hasIn c d some events = eventful c

@@ -9,7 +9,7 @@ use Rattle.fields.specs.Field.{Place, place, getOf, flagOf, markOf}
 use Rattle.registers.specs.Map.{resetOf}
 use Rattle.registers.specs.Places.{CR1-PE, CR1-ANFOFF, CR2-START, OAR1-OA1, ISR-TXE, ISR-TXIS, ISR-RXNE, ISR-ADDR, ISR-NACKF, ISR-STOPF, ISR-TC, ISR-TCR, ISR-BERR, ISR-ARLO, ISR-DIR, ISR-ADDCODE, ICR-ADDRCF, ICR-NACKCF, ICR-STOPCF, ICR-BERRCF, ICR-ARLOCF}
 use Rattle.registers.specs.declared.Register.the-variants.{Cr1, Cr2, Oar1, Oar2, Timingr, Isr, Icr, Txdr}
-use Rattle.calls.specs.Calls.{Request, numberOf, call, kinds, transaction, manual, receives, transmits, eventful, configured, hasSecondary}
+use Rattle.calls.specs.Calls.{Request, numberOf, call, kinds, transaction, manual, receives, transmits, eventful, isConfigured, hasSecondary}
 use Rattle.calls.specs.Outcomes.{isDone, isEventRead, outcomeValue, readdressed}
 use Rattle.calls.specs.Pieces.{piecesOf, viewAt, viewOf, there}
 use Rattle.calls.specs.Words.{cr2Of, timingrOf, oar1Of, oar2Of, registerOf, alterOf}
@@ -65,8 +65,8 @@ accessAt c d v b s FlushByte = Write Txdr 0
 accessAt c d v b s FlushTxe = Read Isr
 accessAt c d v b s Flush = flushes
 accessAt c d v b s Timing = Write Timingr (timingrOf c d)
-accessAt c d v b s Own = Write Oar1 (oar1Of d)
-accessAt c d v b s Secondary = Write Oar2 (oar2Of d)
+accessAt c d v b s Own = Write Oar1 (oar1Of (d .config))
+accessAt c d v b s Secondary = Write Oar2 (oar2Of (d .config))
 accessAt c d v b s Enable = enables
 accessAt c d v b s Delay1 = Read Cr1
 accessAt c d v b s Delay2 = Read Cr1
@@ -195,7 +195,7 @@ byteMoved c v s =
     cond (transaction c || there c v s) (Goes Wait)
     (cond (v .last) (transferOver c s) (Next (entryStep c)))
 
--- after the own addresses: call 1 enables, call 2 too but by a modify, call 3 is done
+-- after the own addresses, or without them: call 1 enables, call 2 too but by a modify, call 3 is done
 abbrev pub ownThen : Call → Then
 ownThen c = cond (call c 1) (Goes Enable) (cond (call c 2) (Goes (ModifyRead PeOn)) (Ends (Done 0)))
 
@@ -227,8 +227,8 @@ thenAt c d v s a FlushTxis = cond (flagOf a ISR-TXIS) (Goes FlushByte) (Goes Flu
 thenAt c d v s a FlushByte = Goes FlushTxe
 thenAt c d v s a FlushTxe = cond (flagOf a ISR-TXE) (notAcknowledged c s) (Goes Flush)
 thenAt c d v s a Flush = notAcknowledged c s
-thenAt c d v s a Timing = cond (configured c d) (Goes Own) (Goes Enable)
-thenAt c d v s a Own = cond (hasSecondary d) (Goes Secondary) (ownThen c)
+thenAt c d v s a Timing = cond (isConfigured (d .config)) (Goes Own) (ownThen c)
+thenAt c d v s a Own = cond (hasSecondary (d .config)) (Goes Secondary) (ownThen c)
 thenAt c d v s a Secondary = ownThen c
 thenAt c d v s a Enable = Ends (Done 0)
 thenAt c d v s a Delay1 = Goes Delay2

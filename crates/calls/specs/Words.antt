@@ -5,16 +5,25 @@ use mathlib.Core.Bool.{Bool, true, false, cond}
 use lib.Dec.{eqb}
 use Rattle.fields.specs.Field.{putOf, markOf}
 use Rattle.registers.specs.Addresses.{sevenBitOwn, tenBitOwn, secondary, masked}
+use Rattle.registers.specs.Map.{resetOf}
 use Rattle.registers.specs.Places.{CR1-PE, CR1-ANFOFF, CR1-GCEN, CR1-SBC, CR2-SADD, CR2-RD-WRN, CR2-ADD10, CR2-HEAD10R, CR2-START, CR2-NACK, CR2-NBYTES, CR2-RELOAD, CR2-AUTOEND, OAR1-OA1EN, OAR2-OA2EN}
 use Rattle.registers.specs.declared.Register.{Register}
 use Rattle.registers.specs.declared.Register.the-variants.{Cr1, Cr2, Oar1, Oar2}
 use Rattle.timing.specs.Timingr.{wordOf, unpackOf}
 use Rattle.timing.specs.declared.I2cTiming.{I2cTiming}
-use Rattle.calls.specs.Calls.{call, hasMask}
+use Rattle.calls.specs.Calls.{call}
+use Rattle.calls.specs.declared.AddressMode.{AddressMode}
+use Rattle.calls.specs.declared.AddressMode.the-variants.{AddressMode7bit, AddressMode10bit}
 use Rattle.calls.specs.declared.Call.{Call}
+use Rattle.calls.specs.declared.Configuration.{Configuration}
+use Rattle.calls.specs.declared.Configuration.the-variants.{Unconfigured, Configured}
 use Rattle.calls.specs.declared.Description.{Description}
+use Rattle.calls.specs.declared.MaskBits.{MaskBits}
+use Rattle.calls.specs.declared.MaskBits.the-variants.{Unmasked, Masked}
 use Rattle.calls.specs.declared.Modify.{Modify}
 use Rattle.calls.specs.declared.Modify.the-variants.{PeOff, PeOn, Listen, NackSet, ReloadOff, SbcOff, ReloadClear, SbcOn, ReloadOn, NbytesSet}
+use Rattle.calls.specs.declared.SecondaryAddress.{SecondaryAddress}
+use Rattle.calls.specs.declared.SecondaryAddress.the-variants.{NoSecondary, Secondary}
 use Rattle.calls.specs.declared.View.{View}
 
 -- CR2, once per operation: its length and direction, and how it ends: the last by AUTOEND, one before another of its
@@ -25,16 +34,16 @@ transfer v =
     cond (v .last) (markOf w CR2-AUTOEND true) (cond (v .same) (markOf w CR2-RELOAD true) w)
 
 -- The address: of seven bits shifted left by one; of ten bits with ADD10, and with HEAD10R where the start is repeated.
-abbrev pub addressed : Description → Bool → ℕ → ℕ
-addressed d again w =
-    cond (d .ten)
-    (markOf (markOf (putOf w CR2-SADD (d .address)) CR2-ADD10 true) CR2-HEAD10R again)
-    (putOf w CR2-SADD (d .address * 2))
+abbrev pub addressed : AddressMode → ℕ → Bool → ℕ → ℕ
+addressed AddressMode7bit address again w = putOf w CR2-SADD (address * 2)
+addressed AddressMode10bit address again w =
+    markOf (markOf (putOf w CR2-SADD address) CR2-ADD10 true) CR2-HEAD10R again
 
 -- `start` for the first operation, `reload` after one that ended by RELOAD, else `repeat_start`. START, SADD and ADD10 are
 -- absent from `reload`.
 unfoldable pub cr2Of : Description → View → Bool → ℕ
-cr2Of d v again = cond (v .reload) (transfer v) (addressed d again (markOf (transfer v) CR2-START true))
+cr2Of d v again =
+    cond (v .reload) (transfer v) (addressed (d .mode) (d .address) again (markOf (transfer v) CR2-START true))
 
 -- TIMINGR of call 1 has all fields, that of call 2 neither SCLL nor SCLH; bits 24 to 27 are ignored.
 abbrev pub targetTiming : I2cTiming → I2cTiming
@@ -43,11 +52,24 @@ targetTiming t = record { presc = t .presc; scldel = t .scldel; sdadel = t .sdad
 unfoldable pub timingrOf : Call → Description → ℕ
 timingrOf c d = let t = unpackOf (d .timing) in cond (call c 2) (wordOf (targetTiming t)) (wordOf t)
 
-unfoldable pub oar1Of : Description → ℕ
-oar1Of d = cond (d .config .ten) (tenBitOwn (d .config .own)) (sevenBitOwn (d .config .own))
+-- OAR1 and OAR2 of a configuration. Without one neither is written, and OAR2 not without a secondary address: there the
+-- reset values stand.
+abbrev pub ownWord : AddressMode → ℕ → ℕ
+ownWord AddressMode7bit own = sevenBitOwn own
+ownWord AddressMode10bit own = tenBitOwn own
 
-unfoldable pub oar2Of : Description → ℕ
-oar2Of d = cond (hasMask d) (masked (d .config .secondary) (d .config .mask)) (secondary (d .config .secondary))
+abbrev pub secondaryWord : SecondaryAddress → MaskBits → ℕ
+secondaryWord NoSecondary m = resetOf Oar2
+secondaryWord (Secondary address) Unmasked = secondary address
+secondaryWord (Secondary address) (Masked bits) = masked address bits
+
+unfoldable pub oar1Of : Configuration → ℕ
+oar1Of Unconfigured = resetOf Oar1
+oar1Of (Configured t) = ownWord (t .mode) (t .own)
+
+unfoldable pub oar2Of : Configuration → ℕ
+oar2Of Unconfigured = resetOf Oar2
+oar2Of (Configured t) = secondaryWord (t .secondary) (t .mask)
 
 -- The register of a modify. Listening is enabled in CR1 for the general call, in OAR1 for the primary address, in OAR2 for
 -- the secondary one.

@@ -1,7 +1,7 @@
 // What a call is: its description, its steps, where it stands, and what comes of it. Which access each step makes and
 // what follows is the definition in specs/; that it holds for every order of flags is proved in proofs/.
 ghost use mathlib.Core.Path.{_≡_};
-ghost use Rattle.calls.specs.Calls.{configOf, withOwn, withMode, tenBit, withSecondary, withMask};
+ghost use Rattle.calls.specs.Calls.{configOf, withOwn, withMode, withSecondary, withMask};
 use registers::Register;
 use timing::RawTimingr;
 
@@ -35,26 +35,34 @@ pub enum AddressMode {
     AddressMode10bit,
 }
 
+// A target's second address, of seven bits, and how many of its low bits are not compared: each may be absent.
+pub enum SecondaryAddress {
+    NoSecondary,
+    Secondary(u32),
+}
+
+pub enum MaskBits {
+    Unmasked,
+    Masked(u32),
+}
+
 // A target's addresses. They hold any word, so that every one that does not fit can be refused.
 pub struct TargetConfig {
     pub own: u32,
-    pub secondary: u32,
-    pub mask: u32,
-    pub ten: bool,
+    pub secondary: SecondaryAddress,
+    pub mask: MaskBits,
+    pub mode: AddressMode,
 }
 
 impl TargetConfig {
-    // No secondary address, and no mask.
-    pub const NONE: u32 = 0xFFFF_FFFF;
-
     pub fn new(own: u32) -> TargetConfig
         ensures { λ r. ⌜ r ≡ configOf own ⌝ }
     {
         TargetConfig {
             own,
-            secondary: TargetConfig::NONE,
-            mask: TargetConfig::NONE,
-            ten: false,
+            secondary: SecondaryAddress::NoSecondary,
+            mask: MaskBits::Unmasked,
+            mode: AddressMode::AddressMode7bit,
         }
     }
 
@@ -68,14 +76,17 @@ impl TargetConfig {
     pub fn own_address_mode(mut self, mode: AddressMode) -> TargetConfig
         ensures { λ r. ⌜ r ≡ withMode mode self ⌝ }
     {
-        self.ten = ten_bit(mode);
+        self = TargetConfig { mode, ..self };
         self
     }
 
     pub fn secondary_address(mut self, address: u32) -> TargetConfig
         ensures { λ r. ⌜ r ≡ withSecondary address self ⌝ }
     {
-        self.secondary = address;
+        self = TargetConfig {
+            secondary: SecondaryAddress::Secondary(address),
+            ..self
+        };
         self
     }
 
@@ -83,31 +94,30 @@ impl TargetConfig {
     pub fn secondary_address_mask_bits(mut self, bits: u32) -> TargetConfig
         ensures { λ r. ⌜ r ≡ withMask bits self ⌝ }
     {
-        self.mask = bits;
+        self = TargetConfig {
+            mask: MaskBits::Masked(bits),
+            ..self
+        };
         self
     }
 }
 
-fn ten_bit(mode: AddressMode) -> bool
-    ensures { λ r. ⌜ r ≡ tenBit mode ⌝ }
-{
-    match mode {
-        AddressMode::AddressMode7bit => false,
-        AddressMode::AddressMode10bit => true,
-    }
+// A configuration, or none: call 1 may go without.
+pub enum Configuration {
+    Unconfigured,
+    Configured(TargetConfig),
 }
 
 // What is asked of the driver. The operation list and the buffer are lent beside it. A call looks only at the words
-// that belong to it: the address at 7, the listen kind at 4 and 5, the timing at 1 and 2, the configuration at 1 to 3,
-// where only 1 may go without (`configured`).
+// that belong to it: the address and its mode at 7, the listen kind at 4 and 5, the timing at 1 and 2, the configuration at
+// 1 to 3.
 pub struct Description {
     pub call: u32,
     pub address: u32,
     pub listen: u32,
     pub timing: RawTimingr,
-    pub config: TargetConfig,
-    pub ten: bool,
-    pub configured: bool,
+    pub config: Configuration,
+    pub mode: AddressMode,
 }
 
 // Why a call is refused.

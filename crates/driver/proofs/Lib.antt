@@ -4,3 +4,5 @@ pub mod Loop
 pub mod Shortcuts
 pub mod CameBack
 pub mod Demand
+pub mod Restated
+pub mod Worked

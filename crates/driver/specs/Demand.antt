@@ -28,9 +28,9 @@ pub record Advancing : Type 0 where
   pub advance : Advance
   pub contract : Meets advance saved
 
--- ---- What goes from one advance to the next. Each is handed the saved call as the last one left it. An accepted one is lent
--- the begun description d, the begun operations ops, and the buffer b as the last accepted one left it; a refused one may be
--- lent any others.
+-- ---- What goes from one advance to the next (same section: demand 3 is one statement on the whole list of advances). Each is
+-- handed the saved call as the last one left it. An accepted one is lent the begun description d, the begun operations ops, and
+-- the buffer b as the last accepted one left it; a refused one may be lent any others.
 pub record Handed (d : Description) (ops : List ℕ) (s : SavedCall) (b : List ℕ) (C : Advancing) : Type 0 where
   pub saved : C .saved ≡ s
   pub description : T (not (refused (C .advance))) → C .advance .words ≡ d

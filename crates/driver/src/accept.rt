@@ -4,7 +4,7 @@ ghost use mathlib.Core.Bool.{not, _&&_, _||_};
 ghost use Prim.Native.Nat.{_≤_, max};
 ghost use lib.Dec.{eqb, ltb};
 ghost use lib.ListN.{length};
-ghost use Rattle.calls.specs.Calls.{numberOf, call, transaction, manual, receives, transmits, eventful, configured, hasSecondary};
+ghost use Rattle.calls.specs.Calls.{numberOf, call, transaction, manual, receives, transmits, eventful, isConfigured, hasSecondary};
 ghost use Rattle.calls.specs.Pieces.{piecesFor, pieceAt};
 ghost use Rattle.calls.specs.Refusals.{requestOf, modifyGroup, groupOf, hasIn, accepts};
 ghost use Rattle.calls.proofs.Fit.{Fit};
@@ -12,10 +12,10 @@ ghost use Rattle.driver.specs.Views.{atByte};
 use crate::view::count;
 use crate::view::moves;
 use crate::view::size_at;
+use access::call::has_configuration;
 use access::call::has_secondary;
 use access::call::is_auto_receiver;
 use access::call::is_call;
-use access::call::is_configured;
 use access::call::is_eventful;
 use access::call::is_manual;
 use access::call::is_transaction;
@@ -86,15 +86,17 @@ fn has_stop(c: Call, some: bool) -> bool
 }
 
 fn has_own(c: Call, d: Description) -> bool
-    ensures { λ r. ⌜ r ≡ ((call c 1 || (call c 2 || call c 3)) && configured c d) ⌝ }
+    ensures { λ r. ⌜ r ≡ (call c 3 || ((call c 1 || call c 2) && isConfigured (d .config))) ⌝ }
 {
-    any(c, 1, 2, 3) & is_configured(c, d)
+    let config = d.config;
+    is_call(c, 3) | (either(c, 1, 2) & has_configuration(config))
 }
 
 fn has_second(c: Call, d: Description) -> bool
-    ensures { λ r. ⌜ r ≡ ((call c 1 || (call c 2 || call c 3)) && (configured c d && hasSecondary d)) ⌝ }
+    ensures { λ r. ⌜ r ≡ ((call c 1 || (call c 2 || call c 3)) && hasSecondary (d .config)) ⌝ }
 {
-    any(c, 1, 2, 3) & (is_configured(c, d) & has_secondary(d))
+    let config = d.config;
+    any(c, 1, 2, 3) & has_secondary(config)
 }
 
 fn has_nack_set(c: Call, some: bool) -> bool

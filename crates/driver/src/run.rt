@@ -1,12 +1,12 @@
 // The loop of advance: accesses until the call has ended, the log has no place, or a read finds no answer.
 ghost use mathlib.Core.Path.{_≡_};
-ghost use Prim.Native.Nat.{_+_, _*_, _/_, _%_, _≤_};
+ghost use Prim.Native.Nat.{_+_, _*_, _/_, _≤_};
 ghost use lib.Dec.{ltb};
 ghost use lib.ListN.{length, set};
 ghost use Rattle.calls.proofs.Accepted.{Known};
 ghost use Rattle.calls.specs.Pieces.{viewOf};
 ghost use Rattle.calls.specs.Refusals.{requestOf};
-ghost use Rattle.calls.specs.Run.{advanceFrom, asFinal, finalBy};
+ghost use Rattle.calls.specs.Run.{byteOf, advanceFrom, asFinal, finalBy};
 ghost use Rattle.registers.specs.Map.{offsetOf};
 ghost use Rattle.calls.proofs.Fit.{Fit};
 ghost use Rattle.steps.specs.Bounds.{Small};
@@ -21,6 +21,7 @@ use calls::Report;
 use calls::SavedCall;
 use calls::View;
 use registers::Register;
+use registers::Rxdr;
 
 // What a turn finds: whether there is an access to make, the report where there is none, and the answer to a read.
 pub struct Found {
@@ -47,10 +48,10 @@ pub fn note(log: &mut [u32], at: usize, code: u32, value: u32)
 }
 
 pub fn keep(buffer: &mut [u8], at: usize, answer: u32)
-    ensures { λ _. ⌜ now (buffer .exit) ≡ set (now (buffer .entry)) at (answer % 256) ⌝ }
+    ensures { λ _. ⌜ now (buffer .exit) ≡ set (now (buffer .entry)) at (byteOf answer) ⌝ }
 {
     if at < buffer.len() {
-        buffer[at] = (answer % 256) as u8;
+        buffer[at] = Rxdr(answer).rxdata();
     }
 }
 

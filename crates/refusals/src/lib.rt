@@ -3,14 +3,18 @@
 ghost use mathlib.Core.Path.{_≡_};
 ghost use Prim.Native.Nat.{_≤_};
 ghost use lib.ListN.{length};
-ghost use Rattle.calls.specs.Refusals.{lookupOf, noSuchListenKind, tooWide, configWide, addressWide, lengthOf, strangeBits, tooLong, bufferWrong, requestOf, verdictOf, checkOf};
+ghost use Rattle.calls.specs.Refusals.{lookupOf, noSuchListenKind, noConfiguration, noSuchCall, tooWide, secondaryWide, maskWide, configWide, addressWide, lengthOf, strangeBits, tooLong, bufferWrong, requestOf, verdictOf, checkOf};
 ghost use Rattle.refusals.specs.Rows.{surveyOf, bufferVerdict, listVerdict};
 use access::call;
 use calls::Ack;
+use calls::AddressMode;
 use calls::Call;
+use calls::Configuration;
 use calls::Description;
 use calls::Lookup;
+use calls::MaskBits;
 use calls::Refusal;
+use calls::SecondaryAddress;
 use calls::Verdict;
 
 // The listed call of a number.
@@ -83,38 +87,76 @@ pub fn lookup(n: u32) -> Lookup
     Lookup::Unlisted
 }
 
-// 12, no such call: calls 4 and 5 name one of three listen kinds.
+// 12, no such call: calls 4 and 5 name one of three listen kinds, and 2 and 3 have a configuration.
 fn is_no_listen_kind(c: Call, d: Description) -> bool
     ensures { λ r. ⌜ r ≡ noSuchListenKind c d ⌝ }
 {
     (call::is_call(c, 4) | call::is_call(c, 5)) & (d.listen > 2)
 }
 
-// 8, address: each in its seven or ten bits, and a mask of at most six.
-fn is_too_wide(ten: bool, address: u32) -> bool
-    ensures { λ r. ⌜ r ≡ tooWide ten address ⌝ }
+fn is_no_configuration(c: Call, d: Description) -> bool
+    ensures { λ r. ⌜ r ≡ noConfiguration c d ⌝ }
 {
-    if ten {
-        return address > 1023;
-    }
-    address > 127
+    let config = d.config;
+    (call::is_call(c, 2) | call::is_call(c, 3)) & !call::has_configuration(config)
 }
 
-fn is_config_wide(d: Description) -> bool
-    ensures { λ r. ⌜ r ≡ configWide d ⌝ }
+fn is_no_such_call(c: Call, d: Description) -> bool
+    ensures { λ r. ⌜ r ≡ noSuchCall c d ⌝ }
 {
-    is_too_wide(d.config.ten, d.config.own)
-        | ((call::has_secondary(d) & is_too_wide(false, d.config.secondary))
-            | (call::has_mask(d) & (d.config.mask > 6)))
+    is_no_listen_kind(c, d) | is_no_configuration(c, d)
+}
+
+// 8, address: each in its seven or ten bits, and a mask of at most six.
+fn is_too_wide(mode: AddressMode, address: u32) -> bool
+    ensures { λ r. ⌜ r ≡ tooWide mode address ⌝ }
+{
+    match mode {
+        AddressMode::AddressMode7bit => address > 127,
+        AddressMode::AddressMode10bit => address > 1023,
+    }
+}
+
+fn is_secondary_wide(secondary: SecondaryAddress) -> bool
+    ensures { λ r. ⌜ r ≡ secondaryWide secondary ⌝ }
+{
+    match secondary {
+        SecondaryAddress::NoSecondary => false,
+        SecondaryAddress::Secondary(address) => is_too_wide(AddressMode::AddressMode7bit, address),
+    }
+}
+
+fn is_mask_wide(mask: MaskBits) -> bool
+    ensures { λ r. ⌜ r ≡ maskWide mask ⌝ }
+{
+    match mask {
+        MaskBits::Unmasked => false,
+        MaskBits::Masked(bits) => bits > 6,
+    }
+}
+
+fn is_config_wide(config: Configuration) -> bool
+    ensures { λ r. ⌜ r ≡ configWide config ⌝ }
+{
+    match config {
+        Configuration::Unconfigured => false,
+        Configuration::Configured(t) => {
+            let mode = t.mode;
+            let secondary = t.secondary;
+            let mask = t.mask;
+            is_too_wide(mode, t.own) | (is_secondary_wide(secondary) | is_mask_wide(mask))
+        }
+    }
 }
 
 fn is_address_wide(c: Call, d: Description) -> bool
     ensures { λ r. ⌜ r ≡ addressWide c d ⌝ }
 {
-    (call::is_transaction(c) & is_too_wide(d.ten, d.address))
-        | (((call::is_call(c, 1) | (call::is_call(c, 2) | call::is_call(c, 3)))
-            & call::is_configured(c, d))
-            & is_config_wide(d))
+    let mode = d.mode;
+    let config = d.config;
+    (call::is_transaction(c) & is_too_wide(mode, d.address))
+        | ((call::is_call(c, 1) | (call::is_call(c, 2) | call::is_call(c, 3)))
+            & is_config_wide(config))
 }
 
 // 10, list: at most 64 operations, without strange bits, that make up the buffer.
@@ -208,7 +250,7 @@ fn list_verdict(c: Call, ops: &[u32], n: usize) -> Verdict
 fn verdict(c: Call, d: Description, ops: &[u32], n: usize) -> Verdict
     ensures { λ r. ⌜ r ≡ verdictOf (requestOf c d (now (ops .entry)) n) ⌝ }
 {
-    if is_no_listen_kind(c, d) {
+    if is_no_such_call(c, d) {
         return Verdict::Refused(Refusal::NoSuchCall);
     }
     if is_address_wide(c, d) {

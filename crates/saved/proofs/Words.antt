@@ -26,17 +26,25 @@ use Rattle.calls.specs.Pieces.{Piece, pieceOf, pieceAt, blocksOf, piecesFor, pi
 use Rattle.calls.specs.Refusals.{requestOf, checkOf, accepts}
 use Rattle.calls.specs.Run.{byteOf, turnOf, advanceFrom}
 use Rattle.calls.specs.Steps.{accessAt, accessOf, afterOf, applyOf, awaited, beginOf, countOf, is, noted, thenAt, waitAt}
-use Rattle.calls.specs.Words.{cr2Of, timingrOf, oar1Of, oar2Of, alterOf}
+use Rattle.calls.specs.Words.{addressed, cr2Of, timingrOf, ownWord, secondaryWord, oar1Of, oar2Of, alterOf}
 use Rattle.calls.specs.declared.Access.{Access}
 use Rattle.calls.specs.declared.Access.the-variants.{Read, Take, Write, Nothing}
+use Rattle.calls.specs.declared.AddressMode.{AddressMode}
+use Rattle.calls.specs.declared.AddressMode.the-variants.{AddressMode7bit, AddressMode10bit}
 use Rattle.calls.specs.declared.Call.{Call}
+use Rattle.calls.specs.declared.Configuration.{Configuration}
+use Rattle.calls.specs.declared.Configuration.the-variants.{Unconfigured, Configured}
 use Rattle.calls.specs.declared.Description.{Description}
 use Rattle.calls.specs.declared.Flag.{Flag}
 use Rattle.calls.specs.declared.Flag.the-variants.{Rxne, Txis, Tc, Tcr, Stopf, Never}
+use Rattle.calls.specs.declared.MaskBits.{MaskBits}
+use Rattle.calls.specs.declared.MaskBits.the-variants.{Unmasked, Masked}
 use Rattle.calls.specs.declared.Modify.{Modify}
 use Rattle.calls.specs.declared.Modify.the-variants.{PeOff, PeOn, Listen, NackSet, ReloadOff, SbcOff, ReloadClear, SbcOn, ReloadOn, NbytesSet}
 use Rattle.calls.specs.declared.Outcome.{Outcome}
 use Rattle.calls.specs.declared.SavedCall.{SavedCall}
+use Rattle.calls.specs.declared.SecondaryAddress.{SecondaryAddress}
+use Rattle.calls.specs.declared.SecondaryAddress.the-variants.{NoSecondary, Secondary as AlsoAt}
 use Rattle.calls.specs.declared.Step.{Step}
 use Rattle.calls.specs.declared.Step.the-variants.{Ended, Begin, StartStatus, StartControl, Wait, Byte, StopClear, BusClear, ArbitrationClear, NackClear, FlushTxis, FlushByte, FlushTxe, Flush, Timing, Own, Secondary, Enable, Delay1, Delay2, Disabled, Event, EventFlush, EventClear, Address, TransferClear, ModifyRead, ModifyWrite}
 use Rattle.calls.specs.declared.Then.{Then}
@@ -186,6 +194,29 @@ byte-at b i h = omega (arith, below-at 256 b i h (lit< tt))
 
 ruleset put = (put-lt, one-of, no-word, one-word)
 
+addressed-below : (m : AddressMode) (address : ℕ) (again : Bool) (w : ℕ) → w < word → addressed m address again w < word
+addressed-below AddressMode7bit address again w h = search put
+addressed-below AddressMode10bit address again w h = search put
+
+own-below : (m : AddressMode) (own : ℕ) → ownWord m own < word
+own-below AddressMode7bit own = search put
+own-below AddressMode10bit own = search put
+
+secondary-below : (a : SecondaryAddress) (m : MaskBits) → secondaryWord a m < word
+secondary-below NoSecondary m = no-word
+secondary-below (AlsoAt address) Unmasked = search put
+secondary-below (AlsoAt address) (Masked bits) = search put
+
+oar1-below : (t : Configuration) → oar1Of t < word
+unfolding oar1Of
+oar1-below Unconfigured = no-word
+oar1-below (Configured t) = own-below (t .mode) (t .own)
+
+oar2-below : (t : Configuration) → oar2Of t < word
+unfolding oar2Of
+oar2-below Unconfigured = no-word
+oar2-below (Configured t) = secondary-below (t .secondary) (t .mask)
+
 module _ (c : Call) (d : Description) (v : View) (b : List ℕ) (s : SavedCall) (bytes : Below 256 b) (w : s .word < word) where
   alters : (m : Modify) → alterOf c d v (s .word) m < word
   unfolding alterOf
@@ -201,9 +232,9 @@ module _ (c : Call) (d : Description) (v : View) (b : List ℕ) (s : SavedCall) 
   alters NbytesSet = search put
 
   writes : (t : Step) → Written (accessAt c d v b s t)
-  unfolding cr2Of timingrOf oar1Of oar2Of
+  unfolding cr2Of timingrOf
   writes Ended = tt
-  writes Begin = search put depth 12
+  writes Begin = search (put, addressed-below) depth 12
   writes StartStatus = tt
   writes StartControl = tt
   writes Wait = tt
@@ -217,8 +248,8 @@ module _ (c : Call) (d : Description) (v : View) (b : List ℕ) (s : SavedCall) 
   writes FlushTxe = tt
   writes Flush = search put
   writes Timing = search put depth 12
-  writes Own = search put depth 12
-  writes Secondary = search put depth 12
+  writes Own = oar1-below (d .config)
+  writes Secondary = oar2-below (d .config)
   writes Enable = search put
   writes Delay1 = tt
   writes Delay2 = tt

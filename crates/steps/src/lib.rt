@@ -460,13 +460,15 @@ fn then(c: Call, d: Description, v: View, s: SavedCall, a: u32, t: Step) -> Then
         }
         Step::Flush => not_acknowledged(c, s),
         Step::Timing => {
-            if call::is_configured(c, d) {
+            let config = d.config;
+            if call::has_configuration(config) {
                 return Then::Goes(Step::Own);
             }
-            Then::Goes(Step::Enable)
+            own_then(c)
         }
         Step::Own => {
-            if call::has_secondary(d) {
+            let config = d.config;
+            if call::has_secondary(config) {
                 return Then::Goes(Step::Secondary);
             }
             own_then(c)

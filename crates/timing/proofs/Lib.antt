@@ -3,3 +3,4 @@ pub mod Rows
 pub mod Round
 pub mod Fits
 pub mod Cases
+pub mod Restated

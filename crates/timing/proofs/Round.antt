@@ -41,7 +41,7 @@ unpack-pack t b =
     (simp (get-put, get-apart, tt {0}) (mod-eq-of-lt (b .scll)))
 
 -- a word of fields within their widths is their sum
-sum : (t : I2cTiming) → Within t
+pub sum : (t : I2cTiming) → Within t
     → wordOf t ≡ t .presc * 2 ^ 28 + (t .scldel * 2 ^ 20 + (t .sdadel * 2 ^ 16 + (t .sclh * 2 ^ 8 + t .scll)))
 sum t b = rw (e₁, e₂, e₃, e₄) e₅
   where

@@ -13,21 +13,21 @@ huskerivory-advance-spec =
     tie.close
     (tie.spec
     (λ c κs. search needs)
+    (λ c κs. search needs)
     (λ c. search needs)
     (λ c κs. search needs)
-    (λ c κs. search needs)
-    (λ c. room _ _ _ _ (c .before .before .decode .ensures))
-    (λ c. counted _ _ _ _ (c .before .before .before .decode .ensures))
+    (λ c. room _ _ _ _ (c .before .decode .ensures))
+    (λ c. counted _ _ _ _ (c .before .before .decode .ensures))
     (λ c κs. search needs)
     (λ c. search needs)
     (λ c. search needs)
     (λ c. search needs)
     (λ c.
     let advanced = c .before .before .before .before .before .before in
-    let described = advanced .before .before .before .before .before in
-    let decoded = described .before .before in
+    let decoded = advanced .before .before .before .before .before .before in
     let made = decoded .before .before in
-    let entered = made .before .before in
+    let described = made .before in
+    let entered = described .before .before in
     let start = entered .before .before .before .before in (
       advanced .advance .ensures ∙ rw (listed (start .args .operations .now) _ _ _ (made .list .ensures) (decoded .decode .ensures), described .describe .ensures),
       (

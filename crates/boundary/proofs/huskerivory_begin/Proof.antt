@@ -11,17 +11,17 @@ huskerivory-begin-spec =
     tie.close
     (tie.spec
     (λ c κs. search needs)
+    (λ c κs. search needs)
     (λ c. search needs)
     (λ c κs. search needs)
-    (λ c κs. search needs)
-    (λ c. room _ _ _ _ (c .before .before .decode .ensures))
-    (λ c. counted _ _ _ _ (c .before .before .before .decode .ensures))
+    (λ c. room _ _ _ _ (c .before .decode .ensures))
+    (λ c. counted _ _ _ _ (c .before .before .decode .ensures))
     (λ c κs. search needs)
     (λ c. search needs)
     (λ c.
     let begun = c .before .before in
-    let described = begun .before .before .before in
-    let decoded = described .before .before in
+    let decoded = begun .before .before .before .before in
     let made = decoded .before .before in
-    let start = made .before .before .before .before in
+    let described = made .before in
+    let start = described .before .before .before .before in
     begun .begin .ensures ∙ rw (listed (start .args .operations .now) _ _ _ (made .list .ensures) (decoded .decode .ensures), described .describe .ensures)))

@@ -11,15 +11,15 @@ huskerivory-next-spec =
     tie.close
     (tie.spec
     (λ c κs. search needs)
+    (λ c κs. search needs)
     (λ c. search needs)
     (λ c κs. search needs)
-    (λ c κs. search needs)
-    (λ c. room _ _ _ _ (c .before .before .decode .ensures))
-    (λ c. counted _ _ _ _ (c .before .before .before .decode .ensures))
+    (λ c. room _ _ _ _ (c .before .decode .ensures))
+    (λ c. counted _ _ _ _ (c .before .before .decode .ensures))
     (λ c κs. search needs)
     (λ c.
-    let described = c .before .before in
-    let decoded = described .before .before in
+    let decoded = c .before .before .before in
     let made = decoded .before .before in
-    let start = made .before .before .before .before in
+    let described = made .before in
+    let start = described .before .before .before .before in
     c .next .ensures ∙ rw (listed (start .args .operations .now) _ _ _ (made .list .ensures) (decoded .decode .ensures), described .describe .ensures)))

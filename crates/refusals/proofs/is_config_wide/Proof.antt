@@ -1,4 +1,4 @@
--- `driver::check::is_config_wide` meets its contract. Assumes nothing.
+-- `is_config_wide` meets its contract. Assumes nothing.
 use borrow.Author.Needs.{needs}
 use Rattle.refusals.proofs.is_config_wide.Statement.{statement}
 use Rattle.refusals.proofs.is_config_wide.Tie as tie
@@ -7,8 +7,10 @@ pub is-config-wide-spec : {M : Type 1} → statement M
 is-config-wide-spec =
     tie.close
     (tie.spec
+    (λ c. search needs)
+    (λ c. search needs)
     (λ c κs. search needs)
     (λ c κs. search needs)
     (λ c κs. search needs)
-    (λ c κs. search needs)
-    (λ c. cc))
+    (λ c. search needs)
+    (λ c. rw (c .before .before .before .before .config .given .1) (cc)))

@@ -5,7 +5,6 @@ use lib.Pow.{mod-mod-pow}
 use Rattle.fields.specs.Field.{putOf}
 use Rattle.fields.proofs.Laws.{put-low}
 use Rattle.registers.specs.Places.{CR2-SADD}
-use Rattle.access.proofs.Branch.{no}
 use borrow.Author.Needs.{needs}
 use Rattle.access.proofs.words.with_address.Statement.{statement}
 use Rattle.access.proofs.words.with_address.Tie as tie
@@ -17,9 +16,11 @@ pub with-address-spec : {M : Type 1} → statement M
 with-address-spec =
     tie.close
     (tie.spec
+    (λ c. search needs)
+    (λ c κs. search needs)
+    (λ c. search needs)
     (λ c κs. search needs)
     (λ c κs. search needs)
     (λ c κs. search needs)
-    (λ c. cc)
-    (λ c κs. search needs)
-    (λ c. no _ _ (c .before .before .if1 .left) (c .with-sadd2 .ensures ∙ shifted _ _)))
+    (λ c. rw (c .before .enum-told .given .1) (c .with-sadd .ensures ∙ shifted _ _))
+    (λ c. rw (c .before .before .before .enum-told2 .given .1) (cc)))

@@ -13,6 +13,7 @@ describe-spec =
     (λ c κs. search needs)
     (λ c κs. search needs)
     (λ c κs. search needs)
+    (λ c κs. search needs)
     (λ c.
     let cut = c .before .before in
-    rw (c .config .ensures, c .before .after .ensures, cut .config-from .ensures, cut .before .word .ensures)))
+    rw (c .address-mode .ensures, c .before .config .ensures, cut .after .ensures, cut .before .config-from .ensures, cut .before .before .word .ensures)))

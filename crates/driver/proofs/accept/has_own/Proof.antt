@@ -9,4 +9,5 @@ has-own-spec =
     (tie.spec
     (λ c κs. search needs)
     (λ c κs. search needs)
-    (λ c. rw (c .before .any .ensures, c .is-configured .ensures)))
+    (λ c κs. search needs)
+    (λ c. rw (c .before .before .is-call .ensures, c .before .either .ensures, c .has-configuration .ensures)))

@@ -9,5 +9,4 @@ has-second-spec =
     (tie.spec
     (λ c κs. search needs)
     (λ c κs. search needs)
-    (λ c κs. search needs)
-    (λ c. rw (c .before .before .any .ensures, c .before .is-configured .ensures, c .has-secondary .ensures)))
+    (λ c. rw (c .before .any .ensures, c .has-secondary .ensures)))

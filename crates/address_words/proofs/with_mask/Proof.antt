@@ -1,0 +1,13 @@
+-- `with_mask` meets its contract. Assumes nothing.
+use borrow.Author.Needs.{needs}
+use borrow.Author.Tests.{eq-eqb, ne-eqb}
+use Rattle.address_words.proofs.with_mask.Statement.{statement}
+use Rattle.address_words.proofs.with_mask.Tie as tie
+
+pub with-mask-spec : {M : Type 1} → statement M
+with-mask-spec =
+    tie.close
+    (tie.spec
+    (λ c. rw (eq-eqb _ _ (c .if1 .taken)))
+    (λ c κs. search needs)
+    (λ c. rw (ne-eqb _ _ (c .before .if1 .left)) (c .secondary-address-mask-bits .ensures)))

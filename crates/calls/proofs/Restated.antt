@@ -1,0 +1,299 @@
+-- What demand 3 and document 01's section "A call, from its entry" say of a begin and the advances after it, once more, fact by fact, in the
+-- words of Plain. Each theorem is read off `demand-3`: a statement that loses a fact, and its proof with it, fails here. Assumes nothing.
+use Prim.Native.Nat.{ℕ, _+_, _-_, _*_, _/_, _≤_, _<_, min}
+use native.Mathlib.Omega.{arith}
+use mathlib.Core.Logic.{_≢_}
+use mathlib.Core.Path.{_≡_, refl, sym, ap, ap₂, _∙_, subst}
+use mathlib.Core.Bool.{not}
+use mathlib.Core.List.{List, [], _∷_, _++_}
+use lib.Dec.{T, T-not}
+use lib.ListN.{length, getD, drop}
+use Rattle.calls.specs.Advances.{Advance, refused, made, joined, bufferAfter, savedAfter, nobody, last, lastAccepted, Came, over, full, waiting, LastCame, NoneRefused, RefusedUntouched, AllRefused, NoRun}
+use Rattle.calls.specs.Bytes.{EndedAs, bytesAt, callerBytes, readPlaces, writeCount}
+use Rattle.calls.specs.Calls.{Request, transaction, manual}
+use Rattle.calls.specs.Demand.{left, Kept, Demand3}
+use Rattle.calls.specs.Refusals.{total, requestOf, checkOf}
+use Rattle.calls.specs.Run.{Entry, wordsOf, Uncut, uncutOf, noCall, begunOf, putOut, takenIn}
+use Rattle.calls.specs.Steps.{accessOf, beginOf}
+use Rattle.calls.specs.declared.Access.the-variants as access
+use Rattle.calls.specs.declared.Call.{Call}
+use Rattle.calls.specs.declared.Description.{Description}
+use Rattle.calls.specs.declared.Outcome.{Outcome}
+use Rattle.calls.specs.declared.Outcome.the-variants.{Done}
+use Rattle.calls.specs.declared.Refusal.{Refusal}
+use Rattle.registers.specs.declared.Register.{Register}
+use Rattle.calls.specs.declared.Report.the-variants.{Over, Full, Waiting}
+use Rattle.calls.specs.declared.SavedCall.{SavedCall}
+use Rattle.calls.specs.declared.Step.the-variants.{Ended}
+use Rattle.calls.specs.declared.Verdict.{Verdict}
+use Rattle.calls.specs.declared.Verdict.the-variants.{Accepted, Refused as Rejected}
+use Rattle.calls.proofs.Demand.{demand-3}
+use Rattle.calls.proofs.Every.{is-eq}
+use Rattle.calls.proofs.Fit.{accepted-fit}
+use Rattle.calls.proofs.Logic.{is-true, is-false}
+use Rattle.calls.proofs.Plain.{Refuses, LeftAlone, Leads, accesses, entries, answers, gave, received, sent, numbered, isTransaction, isSender, isReceiver, toSend, toFill, toKeep, accesses-are, entries-are, answers-are, is-refused, not-refused, refuses, led, gave-is, received-is, sent-is, transaction-is, sender-is, receiver-is, auto-sender, manual-sender, is-auto, is-manual, fill-is, send-is, keep-is, padded}
+
+begun-at : (c : Call) (d : Description) (ops : List ℕ) (n : ℕ) → checkOf d ops n ≡ Accepted c →
+    begunOf d ops n .saved ≡ beginOf (requestOf c d ops n)
+unfolding begunOf
+begun-at c d ops n e = rw e
+
+not-begun : (r : Refusal) (d : Description) (ops : List ℕ) (n : ℕ) → checkOf d ops n ≡ Rejected r → begunOf d ops n .saved ≡ noCall
+unfolding begunOf
+not-begun r d ops n e = rw e
+
+-- of each of them
+abbrev pub Each : (Advance → Type 0) → List Advance → Type 0
+Each P [] = Unit {0}
+Each P (A ∷ As) = P A × Each P As
+
+nobody-else : (Bs : List Advance) → Each Refuses Bs → lastAccepted Bs ≡ nobody
+nobody-else [] h = refl
+nobody-else (B ∷ Bs) h = rw (nobody-else Bs (h .1), is-true (refused B) (is-refused B (h .0)))
+
+last-is : (before : List Advance) (A : Advance) (after : List Advance) → ¬ Refuses A → Each Refuses after →
+    lastAccepted (before ++ A ∷ after) ≡ last A
+last-is [] A after n h = rw (nobody-else after h, is-false (refused A) (not-refused A n))
+last-is (B ∷ before) A after n h = rw (last-is before A after n h)
+
+left-alone : (before : List Advance) (A : Advance) (after : List Advance) (s₀ s : SavedCall) →
+    RefusedUntouched (before ++ A ∷ after) s₀ → savedAfter before s₀ ≡ s → Refuses A → LeftAlone A s
+left-alone [] A after s₀ s h e r = let u = h .0 (is-refused A r) in (u .used, u .written, u .saved ∙ e, u .buffer, u .log)
+left-alone (B ∷ before) A after s₀ s h e r = left-alone before A after (B .result .saved) s (h .1) e r
+
+-- Begin was accepted as the call c, with the description d, the operations ops and the buffer b; the advances As followed, and led to
+-- the saved call s′ and the buffer b′.
+module _ (c : Call) (d : Description) (ops b : List ℕ) (As : List Advance) (s′ : SavedCall) (b′ : List ℕ)
+    (begun : checkOf d ops (length b) ≡ Accepted c) (leads : Leads d ops As (begunOf d ops (length b) .saved) b s′ b′) where
+  abbrev pub q : Request
+  q = requestOf c d ops (length b)
+
+  -- the uncut run, to as many accesses, over the answers used and any that follow
+  abbrev pub run : List ℕ → Uncut
+  run rest = uncutOf q (accesses As) (begunOf d ops (length b) .saved) b (answers As ++ rest)
+
+  abbrev pub log : List Entry
+  log = run [] .log
+
+  kept : Kept q b As
+  kept = subst (λ (v : Verdict). Demand3 v d ops b As) begun (demand-3 d ops b As (led leads .follows))
+
+  started : begunOf d ops (length b) .saved ≡ beginOf q
+  started = begun-at c d ops (length b) begun
+
+  saved-is : savedAfter As (beginOf q) ≡ s′
+  saved-is = ap (savedAfter As) (sym started) ∙ led leads .saved
+
+  buffer-is : bufferAfter As b ≡ b′
+  buffer-is = led leads .buffer
+
+  came-to : (rest : List ℕ) → run rest ≡ record { saved = s′; buffer = b′; log = kept .one-run .log }
+  came-to rest =
+      rw (← accesses-are As, ← answers-are As, started)
+      (kept .one-run .run rest
+      ∙ ap₂ (λ (s : SavedCall) (x : List ℕ). record { saved = s; buffer = x; log = kept .one-run .log }) saved-is buffer-is)
+
+  log-is : (rest : List ℕ) → run rest .log ≡ kept .one-run .log
+  log-is rest = ap (λ (U : Uncut). U .log) (came-to rest)
+
+  -- the joined entries are the run's, as many as there are, with one answer to each read
+  pub entries-of-the-run : (rest : List ℕ) → wordsOf (run rest .log) ≡ entries As
+  entries-of-the-run rest = ap wordsOf (log-is rest) ∙ kept .one-run .words ∙ entries-are As
+
+  pub as-many : (rest : List ℕ) → length (run rest .log) ≡ accesses As
+  as-many rest = ap length (log-is rest) ∙ kept .one-run .count ∙ accesses-are As
+
+  pub answer-to-each-read : (rest : List ℕ) → gave (run rest .log) ≡ answers As
+  answer-to-each-read rest = ap gave (log-is rest) ∙ sym (gave-is (kept .one-run .log)) ∙ kept .one-run .answers ∙ answers-are As
+
+  -- so are the buffer and the saved call
+  pub buffer-of-the-run : (rest : List ℕ) → run rest .buffer ≡ b′
+  buffer-of-the-run rest = ap (λ (U : Uncut). U .buffer) (came-to rest)
+
+  pub call-of-the-run : (rest : List ℕ) → run rest .saved ≡ s′
+  call-of-the-run rest = ap (λ (U : Uncut). U .saved) (came-to rest)
+
+  -- more accesses and answers alter no ended call
+  pub ended-stays : s′ .step ≡ Ended → (m : ℕ) (rest : List ℕ) →
+      uncutOf q (accesses As + m) (begunOf d ops (length b) .saved) b (answers As ++ rest) ≡ run []
+  ended-stays e m rest =
+      rw (← accesses-are As, ← answers-are As, started)
+      (kept .one-run .stays (rw (saved-is, e) tt) m rest ∙ sym (kept .one-run .run []))
+
+  -- An advance with the begun description, the buffer's length included, is not refused.
+  pub none-refused : (before : List Advance) (A : Advance) (after : List Advance) → As ≡ before ++ A ∷ after →
+      A .words ≡ d → A .operations ≡ ops → length (A .buffer) ≡ length b → ¬ Refuses A
+  none-refused before A after e w o n r =
+      T-not (refused A) (go before (subst (NoneRefused d ops (length b)) e (kept .one-run .accepted)) w o n) (is-refused A r)
+    where
+      go : (before : List Advance) → NoneRefused d ops (length b) (before ++ A ∷ after) →
+          A .words ≡ d → A .operations ≡ ops → length (A .buffer) ≡ length b → T (not (refused A))
+      go [] h = h .0
+      go (B ∷ before) h = go before (h .1)
+
+  -- A refused advance uses no answer, writes nothing, and hands back the saved call that it got.
+  pub refused-untouched : (before : List Advance) (A : Advance) (after : List Advance) (s : SavedCall) (x : List ℕ) → As ≡ before ++ A ∷ after →
+      Leads d ops before (begunOf d ops (length b) .saved) b s x → Refuses A → LeftAlone A s
+  refused-untouched before A after s x e l r =
+      left-alone before A after (beginOf q) s (subst (λ (Bs : List Advance). RefusedUntouched Bs (beginOf q)) e (kept .one-run .untouched))
+      (ap (savedAfter before) (sym started) ∙ led l .saved) r
+
+  -- What the last accepted advance reports.
+  module _ (before : List Advance) (A : Advance) (after : List Advance) (split : As ≡ before ++ A ∷ after)
+      (accepted : ¬ Refuses A) (others : Each Refuses after) where
+    came : Came q s′ b′ A
+    came =
+        subst (LastCame q s′ b′) (ap lastAccepted split ∙ last-is before A after accepted others)
+        (rw (saved-is, buffer-is) at (kept .one-run .came))
+
+    -- its outcome, where the run has ended, and only there
+    pub over-when-ended : s′ .step ≡ Ended → A .result .report ≡ Over (s′ .outcome)
+    over-when-ended e = go came
+      where
+        go : Came q s′ b′ A → A .result .report ≡ Over (s′ .outcome)
+        go (over h r) = r
+        go (full h w r) = absurd (rw e at h)
+        go (waiting h w x u r) = absurd (rw e at h)
+
+    pub ended-when-over : (o : Outcome) → A .result .report ≡ Over o → (s′ .step ≡ Ended) × (s′ .outcome ≡ o)
+    ended-when-over o f = go came
+      where
+        go : Came q s′ b′ A → (s′ .step ≡ Ended) × (s′ .outcome ≡ o)
+        go (over h r) = (is-eq (s′ .step) Ended h, cc)
+        go (full h w r) = let z : _≡_ {A = ℕ} 0 1 = cc in absurd (omega arith)
+        go (waiting h w x u r) = let z : _≡_ {A = ℕ} 0 1 = cc in absurd (omega arith)
+
+    -- `full`, where the next access finds no place left
+    pub no-place-when-full : A .result .report ≡ Full → (s′ .step ≢ Ended) × (A .result .written ≡ length (A .log) / 2)
+    no-place-when-full f = go came
+      where
+        go : Came q s′ b′ A → (s′ .step ≢ Ended) × (A .result .written ≡ length (A .log) / 2)
+        go (over h r) = let z : _≡_ {A = ℕ} 0 1 = cc in absurd (omega arith)
+        go (full h w r) = (λ e. rw e at h, w)
+        go (waiting h w x u r) = let z : _≡_ {A = ℕ} 0 1 = cc in absurd (omega arith)
+
+    -- `waiting`, where it is a read that has a place, and no answer left
+    pub no-answer-when-waiting : A .result .report ≡ Waiting →
+        (s′ .step ≢ Ended) × (A .result .written < length (A .log) / 2) × (A .result .used ≡ length (A .answers))
+        × ((r : Register) (v : ℕ) → accessOf q b′ s′ ≢ access.Write r v) × (accessOf q b′ s′ ≢ access.Nothing)
+    no-answer-when-waiting f = go came
+      where
+        go : Came q s′ b′ A →
+            (s′ .step ≢ Ended) × (A .result .written < length (A .log) / 2) × (A .result .used ≡ length (A .answers))
+            × ((r : Register) (v : ℕ) → accessOf q b′ s′ ≢ access.Write r v) × (accessOf q b′ s′ ≢ access.Nothing)
+        go (over h r) = let z : _≡_ {A = ℕ} 0 1 = cc in absurd (omega arith)
+        go (full h w r) = let z : _≡_ {A = ℕ} 0 1 = cc in absurd (omega arith)
+        go (waiting h w x u r) = (λ e. rw e at h, w, u, λ k v e. rw e at x, λ e. rw e at x)
+
+  -- ---- bytes out
+
+  fits : T (transaction c) → total ops ≡ length b
+  fits = accepted-fit c d ops (length b) begun .sum
+
+  out-is : putOut (kept .one-run .log) ≡ sent log
+  out-is = sent-is (kept .one-run .log) ∙ ap sent (sym (log-is []))
+
+  send : callerBytes q b ≡ toSend c ops b
+  send = send-is q b refl fits
+
+  ended-as : s′ .step ≡ Ended → (n : ℕ) → s′ .outcome ≡ Done n → EndedAs (Done n) (left q b As (kept .one-run .log))
+  ended-as e n o = record { ended = rw saved-is e; outcome = rw saved-is o }
+
+  -- Byte i that is put out is the caller's byte i, and 0 where the caller has none.
+  pub sent-in-order : (i : ℕ) → i < length (sent log) → getD (sent log) i 0 ≡ getD (toSend c ops b) i 0
+  sent-in-order i h =
+      ap (λ (l : List ℕ). getD l i 0) (sym out-is ∙ kept .bytes-out .in-order)
+      ∙ padded (length (putOut (kept .one-run .log))) (callerBytes q b) i (rw out-is h)
+      ∙ ap (λ (l : List ℕ). getD l i 0) send
+
+  -- Only 10, 12, 26 and 28 put out more than the caller's bytes.
+  pub sent-no-more : T (not (isSender c)) → length (sent log) ≤ length (toSend c ops b)
+  sent-no-more n = rw (← out-is, ← send) (kept .bytes-out .no-zeros (rw (sender-is c) n))
+
+  -- A transaction that is done has put out all of them.
+  pub sent-all : T (isTransaction c) → s′ .step ≡ Ended → (n : ℕ) → s′ .outcome ≡ Done n → sent log ≡ toSend c ops b
+  sent-all t e n o = sym out-is ∙ kept .bytes-out .done (rw (transaction-is c) t) n (ended-as e n o) ∙ send
+
+  -- ---- bytes in
+
+  in-is : takenIn (kept .one-run .log) ≡ received log
+  in-is = received-is (kept .one-run .log) ∙ ap received (sym (log-is []))
+
+  pub same-length : length b′ ≡ length b
+  same-length = ap length (sym buffer-is) ∙ kept .bytes-in .same-length
+
+  fill : bytesAt b (readPlaces q) ≡ toFill c ops b
+  fill = fill-is q b refl fits
+
+  fill′ : bytesAt (bufferAfter As b) (readPlaces q) ≡ toFill c ops b′
+  fill′ = ap (λ (x : List ℕ). bytesAt x (readPlaces q)) buffer-is ∙ fill-is q b′ same-length fits
+
+  -- What is to be filled holds the bytes received, in order, then what stood there.
+  pub received-in-order : toFill c ops b′ ≡ received log ++ drop (length (received log)) (toFill c ops b)
+  received-in-order = sym fill′ ∙ kept .bytes-in .in-order ∙ rw (in-is, fill)
+
+  -- No other byte changes.
+  pub others-kept : toKeep c ops b′ ≡ toKeep c ops b
+  others-kept = keep-is q b b′ refl same-length fits (λ i h. rw (← buffer-is) (kept .bytes-in .others i h))
+
+  -- A transaction that is done has filled all of them.
+  pub received-all : T (isTransaction c) → s′ .step ≡ Ended → (n : ℕ) → s′ .outcome ≡ Done n → toFill c ops b′ ≡ received log
+  received-all t e n o = sym fill′ ∙ kept .bytes-in .done (rw (transaction-is c) t) n (ended-as e n o) ∙ in-is
+
+  -- ---- what `done` counts: of 9, 11, 25 and 27 the bytes received
+  pub count-received : T (isReceiver c) → s′ .step ≡ Ended → (n : ℕ) → s′ .outcome ≡ Done n → n ≡ length (received log)
+  count-received t e n o = kept .count n (ended-as e n o) .received (rw (receiver-is c) t) ∙ ap length in-is
+
+  sent-count : T (isSender c) → s′ .step ≡ Ended → (n : ℕ) → s′ .outcome ≡ Done n → n ≡ writeCount (manual c) (length b) (length (sent log))
+  sent-count t e n o =
+      kept .count n (ended-as e n o) .transmitted (rw (sender-is c) t)
+      ∙ ap (λ (l : List ℕ). writeCount (manual c) (length b) (length l)) out-is
+
+  -- of 10 and 12 one less than was put out, but no more than the buffer has
+  pub count-sent : T (numbered (10 ∷ 12 ∷ []) c) → s′ .step ≡ Ended → (n : ℕ) → s′ .outcome ≡ Done n →
+      n ≡ min (length (sent log) - 1) (length b)
+  count-sent t e n o = omega (arith, rw (is-false (manual c) (is-auto c t)) at (sent-count (auto-sender c t) e n o))
+
+  -- of 26 and 28 the same of the last block of 255 that was reached, and all of the blocks before it
+  pub count-sent-in-blocks : T (numbered (26 ∷ 28 ∷ []) c) → s′ .step ≡ Ended → (n : ℕ) → s′ .outcome ≡ Done n →
+      let whole : ℕ = 255 * min (length (sent log) / 255) ((length b - 1) / 255) in
+      n ≡ whole + min (length (sent log) - whole - 1) (length b - whole)
+  count-sent-in-blocks t e n o = rw (is-true (manual c) (is-manual c t)) at (sent-count (manual-sender c t) e n o)
+
+  -- and never more than was put out of the buffer
+  pub count-at-most : T (isSender c) → s′ .step ≡ Ended → (n : ℕ) → s′ .outcome ≡ Done n → (n ≤ length (sent log)) × (n ≤ length b)
+  count-at-most t e n o =
+      let h = kept .count n (ended-as e n o) .at-most (rw (sender-is c) t) in
+      (omega (arith, h, ap length out-is), omega (arith, h))
+
+  -- ---- the access number, which is held at its end
+  pub access-number : s′ .accesses ≡ min (accesses As) 4294967295
+  access-number = ap (λ (s : SavedCall). s .accesses) (sym saved-is) ∙ kept .accesses ∙ ap (λ (k : ℕ). min k 4294967295) (accesses-are As)
+
+-- Begin was refused: so is every advance, and nothing is done.
+module _ (r : Refusal) (d : Description) (ops b : List ℕ) (As : List Advance) (s′ : SavedCall) (b′ : List ℕ)
+    (begun : checkOf d ops (length b) ≡ Rejected r) (leads : Leads d ops As (begunOf d ops (length b) .saved) b s′ b′) where
+  no-run : NoRun b As
+  no-run = subst (λ (v : Verdict). Demand3 v d ops b As) begun (demand-3 d ops b As (led leads .follows))
+
+  not-started : begunOf d ops (length b) .saved ≡ noCall
+  not-started = not-begun r d ops (length b) begun
+
+  pub number-0 : begunOf d ops (length b) .saved .call ≡ 0
+  number-0 = ap (λ (s : SavedCall). s .call) not-started
+
+  pub all-refused : Each Refuses As
+  all-refused = go As (no-run .refused)
+    where
+      go : (As : List Advance) → AllRefused As → Each Refuses As
+      go [] h = tt
+      go (A ∷ As) h = (refuses A (h .0), go As (h .1))
+
+  pub all-untouched : (before : List Advance) (A : Advance) (after : List Advance) (s : SavedCall) (x : List ℕ) → As ≡ before ++ A ∷ after →
+      Leads d ops before (begunOf d ops (length b) .saved) b s x → Refuses A → LeftAlone A s
+  all-untouched before A after s x e l h =
+      left-alone before A after noCall s (subst (λ (Bs : List Advance). RefusedUntouched Bs noCall) e (no-run .untouched))
+      (ap (savedAfter before) (sym not-started) ∙ led l .saved) h
+
+  pub nothing-done : (accesses As ≡ 0) × (entries As ≡ []) × (b′ ≡ b)
+  nothing-done = (sym (accesses-are As) ∙ no-run .made, sym (entries-are As) ∙ no-run .joined, sym (led leads .buffer) ∙ no-run .buffer)
