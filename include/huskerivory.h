@@ -133,9 +133,9 @@ enum {
 
 /* ---- Begin */
 
-/* Begins a call: 0 and the saved call, or the number of a refusal and a saved call of 32 zero bytes. Where `saved_len` is
- * not 32 it writes nothing and refuses, as 13 if nothing else is wrong. The buffer's bytes are not looked at. `saved` is written
- * and may overlap neither of the other two slices. */
+/* Begins a call: 0 and the saved call, or the number of a refusal and a saved call of zero bytes. Where `saved_len` is not
+ * HUSKERIVORY_SAVED_CALL it writes nothing and refuses, as 13 if nothing else is wrong. The buffer's bytes are not looked at.
+ * `saved` is written and may overlap neither of the other two slices. */
 uint32_t huskerivory_begin(huskerivory_description description,
                            const uint8_t *operations, size_t operations_len,
                            const uint8_t *buffer, size_t buffer_len,

@@ -201,7 +201,6 @@ static huskerivory_advanced answer_once(call *c, size_t places) {
 
 /* Most of it is checked by the compiler. */
 static void check_layout(void) {
-    CHECK(HUSKERIVORY_SAVED_CALL == 32);
     CHECK(HUSKERIVORY_LOG_ENTRY == 8);
 }
 

@@ -5,7 +5,7 @@ ghost use Prim.Native.Nat.{ℕ, _+_};
 ghost use lib.ListN.{getD};
 ghost use Rattle.registers.specs.Places.{ICR-ADDRCF, ICR-NACKCF, ICR-STOPCF, ICR-BERRCF, ICR-ARLOCF};
 ghost use Rattle.calls.specs.Steps.{clears, flushes, enables, byteOut, byteAccess, accessAt};
-ghost use Rattle.access.specs.Next.{nextOf};
+ghost use Rattle.calls.specs.Next.{nextOf};
 use calls::Access;
 use calls::Call;
 use calls::Description;
@@ -19,7 +19,6 @@ use registers::Isr;
 use registers::Register;
 use registers::Txdr;
 
-pub mod call;
 mod words;
 
 fn clear_stop() -> Access

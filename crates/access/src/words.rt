@@ -1,7 +1,6 @@
 // The words that a call writes into control registers. A modify's word keeps what was read but for its fields.
 ghost use mathlib.Core.Path.{_≡_};
 ghost use Rattle.calls.specs.Words.{transfer, addressed, cr2Of, targetTiming, timingrOf, ownWord, secondaryWord, oar1Of, oar2Of, listenRegister, registerOf, enabledWord, listenWord, alterOf};
-use crate::call;
 use calls::AddressMode;
 use calls::Call;
 use calls::Configuration;
@@ -10,6 +9,7 @@ use calls::MaskBits;
 use calls::Modify;
 use calls::SecondaryAddress;
 use calls::View;
+use kinds::call;
 use registers::Cr1;
 use registers::Cr2;
 use registers::Oar1;
@@ -71,7 +71,7 @@ pub fn timingr_word(c: Call, d: Description) -> u32
 {
     let raw = d.timing;
     let t = raw.unpack();
-    if call::is_call(c, 2) {
+    if call::is_call(c, Call::TargetNew) {
         return target_timing(t).word().0;
     }
     t.word().0
@@ -161,7 +161,7 @@ pub fn register_of(d: Description, m: Modify) -> Register
 fn enabled_word(c: Call, w: u32) -> u32
     ensures { λ r. ⌜ r ≡ enabledWord c w ⌝ }
 {
-    if call::is_call(c, 2) {
+    if call::is_call(c, Call::TargetNew) {
         return Cr1(w).with_anfoff(false).with_pe(true).0;
     }
     Cr1(w).with_pe(true).0
@@ -170,7 +170,7 @@ fn enabled_word(c: Call, w: u32) -> u32
 fn listen_word(c: Call, kind: u32, w: u32) -> u32
     ensures { λ r. ⌜ r ≡ listenWord c kind w ⌝ }
 {
-    let on = call::is_call(c, 4);
+    let on = call::is_call(c, Call::EnableTargetEvent);
     if kind == 0 {
         return Cr1(w).with_gcen(on).0;
     }

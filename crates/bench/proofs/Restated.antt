@@ -11,19 +11,20 @@ use borrow.Fn.Kinds
 use borrow.Fn.World
 use contract.Lifetimes.{Lfts}
 use denote.Triple.Clauses
-use Rattle.benchfile.specs.Calls.{plain, descriptionOf, operationsOf, lentBuffer}
+use Rattle.benchfile.specs.Calls.{plain, headDescription, operationsOf, lentBuffer}
 use Rattle.benchfile.specs.File.{bodySize, fileWrong}
 use Rattle.words.specs.Words.{wordsIn}
 use Rattle.calls.specs.Advances.{answersIn}
 use Rattle.calls.specs.Calls.{Request}
 use Rattle.calls.specs.Refusals.{requestOf, checkOf}
 use Rattle.calls.specs.Run.{uncutOf, noCall, Run, stops}
-use Rattle.calls.specs.Steps.{beginOf, is}
-use Rattle.calls.specs.Whole.{WholeCall}
+use Rattle.calls.specs.Next.{nextOf}
+use Rattle.calls.specs.Steps.{accessOf, beginOf}
+use Rattle.calls.specs.Whole.{stopAt, WholeCall}
 use Rattle.calls.specs.declared.Call.{Call}
 use Rattle.calls.specs.declared.Description.{Description}
 use Rattle.calls.specs.declared.Refusal.{Refusal}
-use Rattle.calls.specs.declared.Report.the-variants.{Over, Waiting, Refused}
+use Rattle.calls.specs.declared.Report.the-variants.{Refused}
 use Rattle.calls.specs.declared.Step.the-variants.{Ended}
 use Rattle.calls.specs.declared.Verdict.{Verdict}
 use Rattle.calls.specs.declared.Verdict.the-variants.{Accepted, Refused as Rejected}
@@ -47,7 +48,7 @@ bodiesFrom (suc k) rows bodies = bodiesFrom k (drop 4 rows) (drop (getD rows 2 0
 abbrev FirstWhole : List ℕ → List ℕ → Type 0
 FirstWhole rows bodies =
     let head : List ℕ = take (getD rows 2 0) bodies in
-    let d : Description = descriptionOf (getD rows 0 0) (getD rows 1 0) head in
+    let d : Description = headDescription (getD rows 0 0) (getD rows 1 0) head in
     let ops : List ℕ = operationsOf (getD rows 0 0) head in
     let b : List ℕ = lentBuffer (plain (getD rows 0 0)) (getD rows 1 0) head in
     let l : List ℕ = take (getD rows 3 0) (drop (getD rows 2 0) bodies) in
@@ -130,7 +131,7 @@ module _ (κs : Lfts 2) (a : borrow.Fn.World.ArgsD text.signature κs) (n : borr
     head = take (getD rows 2 0) bodies
 
     abbrev d : Description
-    d = descriptionOf (getD rows 0 0) (getD rows 1 0) head
+    d = headDescription (getD rows 0 0) (getD rows 1 0) head
 
     abbrev ops : List ℕ
     ops = operationsOf (getD rows 0 0) head
@@ -154,7 +155,8 @@ module _ (κs : Lfts 2) (a : borrow.Fn.World.ArgsD text.signature κs) (n : borr
     run-whole c e m h = (subst (λ (v : Verdict). WholeCall v d ops b l R) e is-whole) .run m h
 
     pub run-over : (c : Call) → checkOf d ops (length b) ≡ Accepted c →
-        R .report ≡ cond (is (R .saved .step) Ended) (Over (R .saved .outcome)) Waiting
+        let q : Request = requestOf c d ops (length b) in
+        R .report ≡ stopAt (R .saved .outcome) (nextOf (accessOf q (R .buffer) (R .saved)))
     run-over c e = (subst (λ (v : Verdict). WholeCall v d ops b l R) e is-whole) .report
 
     pub run-answers : (c : Call) → checkOf d ops (length b) ≡ Accepted c → answersIn (R .entries) ≡ take (R .used) l

@@ -5,13 +5,14 @@ use mathlib.Core.Path.{_≡_, refl, sym, ap, _∙_}
 use mathlib.Core.Bool.{Bool, true, false, cond, not, _&&_}
 use mathlib.Core.List.{List, [], _++_}
 use lib.ListN.{length, getD, take, drop}
-use Rattle.benchfile.specs.Calls.{plain, descriptionOf, operationsOf, lentBuffer}
+use Rattle.benchfile.specs.Calls.{plain, headDescription, operationsOf, lentBuffer}
 use Rattle.benchfile.specs.File.{bodySize}
 use Rattle.calls.specs.Advances.{isRefusal}
 use Rattle.calls.specs.Run.{Run, wordsOf}
 use Rattle.calls.specs.declared.Description.{Description}
 use Rattle.calls.specs.declared.Report.{Report}
-use Rattle.drive.specs.Drive.{Far, asFar, farBy, runFor}
+use Rattle.calls.specs.Joined.{Reached, reachedBy}
+use Rattle.drive.specs.Drive.{asDriven, inLines, runFor}
 use Rattle.drive.specs.declared.Driven.{Driven}
 use Rattle.lines.specs.Lines.{callLine, accessLines, bufferLine}
 use Rattle.window.proofs.Laid.{emit-append, emit-none, front}
@@ -37,16 +38,17 @@ pub then : (t u : List ℕ) (K L M : Laid) → L ≡ emitOf t K → M ≡ emitOf
 then t u K L M e f = f ∙ ap (emitOf u) e ∙ sym (emit-append t u K)
 
 -- what a driven call tells
-pub told : (t : Driven) (b out : List ℕ) (R : Run) (L : Laid) → asFar t b out ≡ farBy R L →
-    record { report = t .report; used = t .used; accesses = t .accesses } ≡ toldBy R
-told t b out R L e = ap (λ (F : Far). record { report = F .report; used = F .used; accesses = F .accesses }) e
+pub told : (t : Driven) (b out : List ℕ) (R : Run) (L : Laid) → asDriven t b out ≡ reachedBy inLines R L →
+    record { report = t .advanced .report; used = t .advanced .used; accesses = t .advanced .written } ≡ toldBy R
+told t b out R L e =
+    ap (λ (F : Reached Laid). record { report = F .advanced .report; used = F .advanced .used; accesses = F .advanced .written }) e
 
 -- and shows: its accesses, and then its buffer
-pub shown : (n : ℕ) (t : Driven) (b out : List ℕ) (R : Run) (K M : Laid) → asFar t b out ≡ farBy R K →
-    M ≡ emitOf (cond (showsBuffer n && not (isRefusal (t .report))) (bufferLine b) []) (asFar t b out .laid) → M ≡ emitOf (runText n R) K
+pub shown : (n : ℕ) (t : Driven) (b out : List ℕ) (R : Run) (K M : Laid) → asDriven t b out ≡ reachedBy inLines R K →
+    M ≡ emitOf (cond (showsBuffer n && not (isRefusal (t .advanced .report))) (bufferLine b) []) (asDriven t b out .out) → M ≡ emitOf (runText n R) K
 shown n t b out R K M e m =
-    then (accessLines (wordsOf (R .entries))) (bufferText n R) K (asFar t b out .laid) M (ap (λ (F : Far). F .laid) e)
-    (m ∙ rw (ap (λ (F : Far). F .report) e, ap (λ (F : Far). F .buffer) e))
+    then (accessLines (wordsOf (R .entries))) (bufferText n R) K (asDriven t b out .out) M (ap (λ (F : Reached Laid). F .out) e)
+    (m ∙ rw (ap (λ (F : Reached Laid). F .advanced .report) e, ap (λ (F : Reached Laid). F .buffer) e))
 
 -- the buffer that a call is lent
 pub lent : (t bytes : List ℕ) (n : ℕ) (bytes′ : List ℕ) → asShown n bytes′ ≡ windowOf 0 t bytes → length bytes ≡ 65536 → take n bytes′ ≡ take 65536 t
@@ -54,7 +56,7 @@ lent t bytes n bytes′ e z = front t bytes n bytes′ e ∙ rw z
 
 -- a call: its line, and then what it shows
 pub called : (n a : ℕ) (head l : List ℕ) (like : ℕ) (d : Description) (ops : List ℕ) (T : Told) (K L M : Laid) →
-    like ≡ plain n → d ≡ descriptionOf n a head → ops ≡ operationsOf n head → T ≡ toldBy (runFor d ops (lentBuffer like a head) l) →
+    like ≡ plain n → d ≡ headDescription n a head → ops ≡ operationsOf n head → T ≡ toldBy (runFor d ops (lentBuffer like a head) l) →
     L ≡ emitOf (callLine n (T .report) (T .used) (T .accesses)) K → M ≡ emitOf (runText like (runFor d ops (lentBuffer like a head) l)) L →
     M ≡ emitOf (callText n (runIn n a head l)) K
 called n a head l like d ops T K L M e f g t u v =

@@ -8,14 +8,12 @@ use lib.Dec.{T}
 use lib.ListN.{length, getD, take, drop, length-take, length-drop}
 use lib.Seq.{take-all}
 use borrow.Author.Tests.{ltb-false}
-use Rattle.benchfile.specs.Calls.{plain, descriptionOf, operationsOf, lentBuffer}
+use Rattle.benchfile.specs.Calls.{plain, headDescription, operationsOf, lentBuffer}
 use Rattle.benchfile.specs.File.{bodySize, sizeWrong, wordsWrong, fileWrong}
-use Rattle.words.proofs.Turns.{length-words}
-use Rattle.words.specs.Words.{wordsIn}
+use Rattle.words.proofs.Turns.{in-words, decoded-words}
+use Rattle.words.specs.Words.{wordsIn, asDecoded, decodedOf}
 use Rattle.calls.proofs.Ends.{whole-run}
 use Rattle.drive.specs.Drive.{places}
-use Rattle.window.proofs.Laid.{front}
-use Rattle.window.specs.Window.{asShown, windowOf}
 use Rattle.bench.specs.Text.{CallsWhole, EveryWhole}
 
 neither : (a b : Bool) → (a || b) ≡ false → a ≡ false
@@ -23,16 +21,16 @@ neither true b h = absurd (subst T h tt)
 neither false b h = refl
 
 few-words : (file : List ℕ) → sizeWrong (length file) ≡ false → length (wordsIn file) ≤ 16384
-unfolding sizeWrong wordsIn
+unfolding sizeWrong
 few-words file h =
     let l : length file ≤ 65536 = ltb-false 65536 (length file) (neither _ _ h) in
-    rw (length-words (length file / 4) file) (omega arith)
+    rw (in-words file) (omega arith)
 
 -- so a room of 16,384 words takes all
 pub all-words : (file words : List ℕ) (n : ℕ) (words′ : List ℕ) → sizeWrong (length file) ≡ false → length words ≡ 16384 →
-    asShown n words′ ≡ windowOf 0 (wordsIn file) words → take n words′ ≡ wordsIn file
+    asDecoded n words′ ≡ decodedOf 0 file words → take n words′ ≡ wordsIn file
 all-words file words n words′ h z e =
-    front (wordsIn file) words n words′ e ∙ take-all (length words) (wordsIn file) (rw z (few-words file h))
+    decoded-words 0 file words n words′ e ∙ take-all (length words) (wordsIn file) (rw z (few-words file h))
 
 calls-whole : (n : ℕ) (rows bodies : List ℕ) → length bodies ≤ 16384 → CallsWhole n rows bodies
 calls-whole zero rows bodies h = tt
@@ -40,7 +38,7 @@ calls-whole (suc n) rows bodies h =
     let head : List ℕ = take (getD rows 2 0) bodies in
     let l : List ℕ = take (getD rows 3 0) (drop (getD rows 2 0) bodies) in
     let few : length l ≤ 16384 = simp (length-take, length-drop) (omega arith) in (
-      whole-run (descriptionOf (getD rows 0 0) (getD rows 1 0) head) (operationsOf (getD rows 0 0) head) places
+      whole-run (headDescription (getD rows 0 0) (getD rows 1 0) head) (operationsOf (getD rows 0 0) head) places
           (lentBuffer (plain (getD rows 0 0)) (getD rows 1 0) head) l (omega arith),
       calls-whole n (drop 4 rows) (drop (bodySize rows) bodies) (simp length-drop (omega arith)),
     )

@@ -10,7 +10,7 @@ use Rattle.calls.specs.Refusals.{checkOf}
 use Rattle.calls.specs.Run.{Run, wordsOf}
 use Rattle.calls.specs.Whole.{WholeCall}
 use Rattle.calls.specs.declared.Description.{Description}
-use Rattle.benchfile.specs.Calls.{plain, descriptionOf, operationsOf, lentBuffer}
+use Rattle.benchfile.specs.Calls.{plain, headDescription, operationsOf, lentBuffer}
 use Rattle.benchfile.specs.File.{bodySize, sizeWrong, wordsWrong, fileWrong}
 use Rattle.words.specs.Words.{wordsIn}
 use Rattle.drive.specs.Drive.{runFor}
@@ -36,7 +36,7 @@ abbrev pub callText : ℕ → Run → List ℕ
 callText n R = callLine n (R .report) (R .used) (length (R .entries)) ++ runText (plain n) R
 
 abbrev pub runIn : ℕ → ℕ → List ℕ → List ℕ → Run
-runIn n a head answers = runFor (descriptionOf n a head) (operationsOf n head) (lentBuffer (plain n) a head) answers
+runIn n a head answers = runFor (headDescription n a head) (operationsOf n head) (lentBuffer (plain n) a head) answers
 
 -- the call of a table's first row, its body first in `bodies`, head before answers
 abbrev pub rowText : List ℕ → List ℕ → List ℕ
@@ -64,7 +64,7 @@ abbrev pub CallsWhole : ℕ → List ℕ → List ℕ → Type 0
 CallsWhole zero rows bodies = Unit {0}
 CallsWhole (suc n) rows bodies =
     let head : List ℕ = take (getD rows 2 0) bodies in
-    let d : Description = descriptionOf (getD rows 0 0) (getD rows 1 0) head in
+    let d : Description = headDescription (getD rows 0 0) (getD rows 1 0) head in
     let ops : List ℕ = operationsOf (getD rows 0 0) head in
     let b : List ℕ = lentBuffer (plain (getD rows 0 0)) (getD rows 1 0) head in
     let l : List ℕ = take (getD rows 3 0) (drop (getD rows 2 0) bodies) in

@@ -11,7 +11,8 @@ ghost use Rattle.window.specs.Window.{laid, emitOf};
 ghost use Rattle.bench.specs.Text.{showsBuffer, runText, toldBy, callText, runIn};
 use calls::Description;
 use calls::Report;
-use window::Place;
+use kinds::report;
+use window::Cursor;
 
 // What the line of a call says besides its number.
 pub struct Told {
@@ -33,22 +34,11 @@ fn shows_buffer(n: u32) -> bool
     (n == 7) | ((n == 9) | (n == 11))
 }
 
-fn is_refusal(r: Report) -> bool
-    ensures { λ t. ⌜ t ≡ isRefusal r ⌝ }
-{
-    match r {
-        Report::Over(_) => false,
-        Report::Full => false,
-        Report::Waiting => false,
-        Report::Refused(_) => true,
-    }
-}
-
 // The buffer after the call, where its line is printed.
-fn put_buffer(p: Place, n: u32, r: Report, buffer: &[u8], out: &mut [u8]) -> Place
+fn put_buffer(p: Cursor, n: u32, r: Report, buffer: &[u8], out: &mut [u8]) -> Cursor
     ensures { λ q. ⌜ laid q (now (out .exit)) ≡ emitOf (cond (showsBuffer n && not (isRefusal r)) (bufferLine (now (buffer .entry))) []) (laid p (now (out .entry))) ⌝ }
 {
-    if shows_buffer(n) & !is_refusal(r) {
+    if shows_buffer(n) & !report::is_refusal(r) {
         return lines::put_buffer(p, buffer, out);
     }
     p
@@ -59,29 +49,31 @@ fn tell(d: Description, ops: &[u32], buffer: &mut [u8], answers: &[u32]) -> Told
     ensures { λ r. ⌜ r ≡ toldBy (runFor d (now (ops .entry)) (now (buffer .entry)) (now (answers .entry))) ⌝ }
 {
     let mut nowhere = [0u8; 1];
-    let t = drive::drive(Place::new(0), d, ops, buffer, answers, &mut nowhere);
-    let report = t.report;
+    let t = drive::drive(Cursor::new(0), d, ops, buffer, answers, &mut nowhere);
+    let far = t.advanced;
+    let report = far.report;
     Told {
         report,
-        used: t.used,
-        accesses: t.accesses,
+        used: far.used,
+        accesses: far.written,
     }
 }
 
 // The call is driven again, now with its text, and the buffer that it leaves is shown.
 fn show(
-    p: Place,
+    p: Cursor,
     n: u32,
     d: Description,
     ops: &[u32],
     buffer: &mut [u8],
     answers: &[u32],
     out: &mut [u8],
-) -> Place
+) -> Cursor
     ensures { λ r. ⌜ laid r (now (out .exit)) ≡ emitOf (runText n (runFor d (now (ops .entry)) (now (buffer .entry)) (now (answers .entry)))) (laid p (now (out .entry))) ⌝ }
 {
     let t = drive::drive(p, d, ops, buffer, answers, out);
-    let report = t.report;
+    let far = t.advanced;
+    let report = far.report;
     let place = t.place;
     put_buffer(place, n, report, buffer, out)
 }
@@ -96,7 +88,7 @@ fn tell_call(n: u32, a: u32, head: &[u32], d: Description, ops: &[u32], answers:
 }
 
 fn show_call(
-    p: Place,
+    p: Cursor,
     n: u32,
     a: u32,
     head: &[u32],
@@ -104,7 +96,7 @@ fn show_call(
     ops: &[u32],
     answers: &[u32],
     out: &mut [u8],
-) -> Place
+) -> Cursor
     ensures { λ r. ⌜ laid r (now (out .exit)) ≡ emitOf (runText n (runFor d (now (ops .entry)) (lentBuffer n a (now (head .entry))) (now (answers .entry)))) (laid p (now (out .entry))) ⌝ }
 {
     let mut buffer = room();
@@ -112,7 +104,7 @@ fn show_call(
     show(p, n, d, ops, &mut buffer[..size], answers, out)
 }
 
-pub fn put_call(p: Place, n: u32, a: u32, head: &[u32], answers: &[u32], out: &mut [u8]) -> Place
+pub fn put_call(p: Cursor, n: u32, a: u32, head: &[u32], answers: &[u32], out: &mut [u8]) -> Cursor
     ensures { λ r. ⌜ laid r (now (out .exit)) ≡ emitOf (callText n (runIn n a (now (head .entry)) (now (answers .entry)))) (laid p (now (out .entry))) ⌝ }
 {
     let like = benchfile::plain(n);

@@ -8,13 +8,13 @@ use benchfile::after;
 use benchfile::body_size;
 use benchfile::first;
 use benchfile::word;
-use window::Place;
+use window::Cursor;
 
 // How many words a file may have at most.
 const WORDS: usize = 16384;
 
 // The call of a table's first row, its body first in `bodies`.
-fn put_row(p: Place, rows: &[u32], bodies: &[u32], out: &mut [u8]) -> Place
+fn put_row(p: Cursor, rows: &[u32], bodies: &[u32], out: &mut [u8]) -> Cursor
     ensures { λ r. ⌜ laid r (now (out .exit)) ≡ emitOf (rowText (now (rows .entry)) (now (bodies .entry))) (laid p (now (out .entry))) ⌝ }
 {
     let n = word(rows, 0);
@@ -31,7 +31,7 @@ fn put_row(p: Place, rows: &[u32], bodies: &[u32], out: &mut [u8]) -> Place
     )
 }
 
-fn put_calls(p: Place, n: u32, rows: &[u32], bodies: &[u32], out: &mut [u8]) -> Place
+fn put_calls(p: Cursor, n: u32, rows: &[u32], bodies: &[u32], out: &mut [u8]) -> Cursor
     ensures { λ r. ⌜ laid r (now (out .exit)) ≡ emitOf (callsText n (now (rows .entry)) (now (bodies .entry))) (laid p (now (out .entry))) ⌝ }
 {
     let mut q = p;
@@ -49,13 +49,13 @@ fn put_calls(p: Place, n: u32, rows: &[u32], bodies: &[u32], out: &mut [u8]) -> 
     q
 }
 
-fn put_table(p: Place, n: u32, words: &[u32], out: &mut [u8]) -> Place
+fn put_table(p: Cursor, n: u32, words: &[u32], out: &mut [u8]) -> Cursor
     ensures { λ r. ⌜ laid r (now (out .exit)) ≡ emitOf (tableText n (now (words .entry))) (laid p (now (out .entry))) ⌝ }
 {
     put_calls(p, n, words, after(words, 4 * n as usize), out)
 }
 
-fn put_words(p: Place, words: &[u32], out: &mut [u8]) -> Place
+fn put_words(p: Cursor, words: &[u32], out: &mut [u8]) -> Cursor
     ensures { λ r. ⌜ laid r (now (out .exit)) ≡ emitOf (wordsText (now (words .entry))) (laid p (now (out .entry))) ⌝ }
 {
     if benchfile::is_wrong(words) {
@@ -70,7 +70,7 @@ fn room() -> [u32; WORDS]
     [0; WORDS]
 }
 
-pub fn put_file(p: Place, file: &[u8], out: &mut [u8]) -> Place
+pub fn put_file(p: Cursor, file: &[u8], out: &mut [u8]) -> Cursor
     ensures { λ r. ⌜ laid r (now (out .exit)) ≡ emitOf (fileText (now (file .entry))) (laid p (now (out .entry))) ⌝ }
 {
     if benchfile::is_size_wrong(file.len()) {

@@ -2,7 +2,7 @@
 ghost use mathlib.Core.Path.{_≡_};
 ghost use Rattle.window.specs.Window.{asShown, windowOf};
 ghost use Rattle.bench.specs.Text.{fileText, EveryWhole};
-use window::Place;
+use window::Cursor;
 
 mod call;
 mod file;
@@ -13,6 +13,6 @@ pub fn text(file: &[u8], from: usize, out: &mut [u8]) -> usize
     ensures { λ r. ⌜ asShown r (now (out .exit)) ≡ windowOf from (fileText (now (file .entry))) (now (out .entry)) ⌝ }
     ensures { λ _. ⌜ EveryWhole (now (file .entry)) ⌝ }
 {
-    let p = file::put_file(Place::new(from), file, out);
+    let p = file::put_file(Cursor::new(from), file, out);
     p.at
 }

@@ -5,7 +5,7 @@ use mathlib.Core.Bool.{true, false}
 use mathlib.Core.List.{List, [], _∷_, _++_, map}
 use lib.ListN.{replicate}
 use Rattle.fields.specs.Field.{getOf, bitsAt}
-use Rattle.benchfile.specs.Calls.{plain, hasArgument, argumentWrong, listWrong, transactionWrong, configWrong, headWrong}
+use Rattle.benchfile.specs.Calls.{plain, hasArgument, argumentWrong, listMisfit, transactionWrong, configWrong, headWrong}
 use Rattle.benchfile.specs.Calls.{callWrong, operationsOf, wholeBuffer, lentBuffer}
 use Rattle.benchfile.specs.File.{rowWrong, rowsWrong, tableWrong, wordsWrong}
 use Rattle.words.specs.Words.{wordsIn}
@@ -41,5 +41,5 @@ wrong =
     ∷ (1 ∷ 3 ∷ 0 ∷ 4 ∷ 0 ∷ 1 ∷ 2 ∷ 0 ∷ 0 ∷ []) ∷ (1 ∷ 30 ∷ 0 ∷ 1 ∷ 0 ∷ 0 ∷ []) ∷ []
 
 told-apart : map wordsWrong (right ++ wrong) ≡ replicate 5 false ++ replicate 7 true
-unfolding run right wrong wordsWrong tableWrong rowsWrong rowWrong callWrong plain argumentWrong hasArgument headWrong transactionWrong listWrong configWrong getOf bitsAt
+unfolding run right wrong wordsWrong tableWrong rowsWrong rowWrong callWrong plain argumentWrong hasArgument headWrong transactionWrong listMisfit configWrong getOf bitsAt
 told-apart = refl

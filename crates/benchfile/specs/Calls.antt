@@ -29,8 +29,8 @@ abbrev pub anyWide : List ℕ → Bool
 anyWide = anyOf (ltb 255)
 
 -- the bytes that words hold
-abbrev pub bytesIn : List ℕ → List ℕ
-bytesIn = map (λ (w : ℕ). w % 256)
+abbrev pub lowBytes : List ℕ → List ℕ
+lowBytes = map (λ (w : ℕ). w % 256)
 
 -- the bytes that an operation writes, and those that a list of them writes
 abbrev pub writeSize : ℕ → ℕ
@@ -41,11 +41,11 @@ writeBytes [] = 0
 writeBytes (o ∷ ops) = writeSize o + writeBytes ops
 
 -- the words of 7's head after the count k: k operations, then a word per write byte
-unfoldable pub listWrong : ℕ → List ℕ → Bool
-listWrong k ws = ltb (length ws) k || (not (eqb (length (drop k ws)) (writeBytes (take k ws))) || anyWide (drop k ws))
+unfoldable pub listMisfit : ℕ → List ℕ → Bool
+listMisfit k ws = ltb (length ws) k || (not (eqb (length (drop k ws)) (writeBytes (take k ws))) || anyWide (drop k ws))
 
 unfoldable pub transactionWrong : List ℕ → Bool
-transactionWrong head = eqb (length head) 0 || listWrong (getD head 0 0) (drop 1 head)
+transactionWrong head = eqb (length head) 0 || listMisfit (getD head 0 0) (drop 1 head)
 
 -- so many words, the mode of a configuration at place i not above 1
 unfoldable pub configWrong : ℕ → ℕ → List ℕ → Bool
@@ -73,8 +73,8 @@ configurationIn ws =
 abbrev pub configFrom : ℕ → ℕ
 configFrom n = cond (eqb n 3) 0 1
 
-unfoldable pub descriptionOf : ℕ → ℕ → List ℕ → Description
-descriptionOf n a head =
+unfoldable pub headDescription : ℕ → ℕ → List ℕ → Description
+headDescription n a head =
     record {
       call = n;
       address = a % 65536;
@@ -98,16 +98,16 @@ operationsOf n head = cond (eqb n 7) (listIn head) []
 abbrev pub operationBytes : ℕ → List ℕ → List ℕ
 operationBytes o bytes = cond (pieceOf o .reads) (replicate (pieceOf o .size) 0) (take (pieceOf o .size) bytes)
 
-abbrev pub bytesOf : List ℕ → List ℕ → List ℕ
-bytesOf [] bytes = []
-bytesOf (o ∷ ops) bytes = operationBytes o bytes ++ bytesOf ops (drop (writeSize o) bytes)
+abbrev pub operationsBytes : List ℕ → List ℕ → List ℕ
+operationsBytes [] bytes = []
+operationsBytes (o ∷ ops) bytes = operationBytes o bytes ++ operationsBytes ops (drop (writeSize o) bytes)
 
 -- before it is cut
 unfoldable pub wholeBuffer : ℕ → ℕ → List ℕ → List ℕ
 wholeBuffer n a head =
-    cond (eqb n 7) (bytesOf (listIn head) (bytesIn (afterList head)))
+    cond (eqb n 7) (operationsBytes (listIn head) (lowBytes (afterList head)))
     (cond (eqb n 9 || eqb n 11) (replicate a 0)
-    (cond (eqb n 10 || eqb n 12) (bytesIn head) []))
+    (cond (eqb n 10 || eqb n 12) (lowBytes head) []))
 
 -- the buffer that is lent to a call that is read like n
 abbrev pub lentBuffer : ℕ → ℕ → List ℕ → List ℕ

@@ -1,15 +1,16 @@
 // The buffer of a call, laid out and cut to the room that there is.
 ghost use mathlib.Core.Path.{_≡_};
 ghost use Rattle.window.specs.Window.{asShown, windowOf, laid, emitOf};
-ghost use Rattle.benchfile.specs.Calls.{bytesIn, operationBytes, bytesOf, afterList, wholeBuffer};
+ghost use Rattle.benchfile.specs.Calls.{lowBytes, operationBytes, operationsBytes, afterList, wholeBuffer};
 use crate::head;
 use crate::part::after;
 use crate::part::first;
 use crate::part::word;
-use window::Place;
+use kinds::operation;
+use window::Cursor;
 
-fn put_bytes(p: Place, words: &[u32], out: &mut [u8]) -> Place
-    ensures { λ r. ⌜ laid r (now (out .exit)) ≡ emitOf (bytesIn (now (words .entry))) (laid p (now (out .entry))) ⌝ }
+fn put_bytes(p: Cursor, words: &[u32], out: &mut [u8]) -> Cursor
+    ensures { λ r. ⌜ laid r (now (out .exit)) ≡ emitOf (lowBytes (now (words .entry))) (laid p (now (out .entry))) ⌝ }
 {
     let mut q = p;
     for i in 0..words.len() {
@@ -19,20 +20,20 @@ fn put_bytes(p: Place, words: &[u32], out: &mut [u8]) -> Place
 }
 
 // The bytes of an operation: zeros, or the first of those that are written.
-fn put_operation(p: Place, o: u32, bytes: &[u32], out: &mut [u8]) -> Place
+fn put_operation(p: Cursor, o: u32, bytes: &[u32], out: &mut [u8]) -> Cursor
     ensures { λ r. ⌜ laid r (now (out .exit))
-        ≡ emitOf (operationBytes o (bytesIn (now (bytes .entry)))) (laid p (now (out .entry))) ⌝ }
+        ≡ emitOf (operationBytes o (lowBytes (now (bytes .entry)))) (laid p (now (out .entry))) ⌝ }
 {
-    let size = head::length(o) as usize;
-    if head::is_read(o) {
+    let size = operation::length(o) as usize;
+    if operation::is_read(o) {
         return window::put_zeros(p, size, out);
     }
     put_bytes(p, first(bytes, size), out)
 }
 
-fn put_operations(p: Place, ops: &[u32], bytes: &[u32], out: &mut [u8]) -> Place
+fn put_operations(p: Cursor, ops: &[u32], bytes: &[u32], out: &mut [u8]) -> Cursor
     ensures { λ r. ⌜ laid r (now (out .exit))
-        ≡ emitOf (bytesOf (now (ops .entry)) (bytesIn (now (bytes .entry)))) (laid p (now (out .entry))) ⌝ }
+        ≡ emitOf (operationsBytes (now (ops .entry)) (lowBytes (now (bytes .entry)))) (laid p (now (out .entry))) ⌝ }
 {
     let mut q = p;
     let mut rest = bytes;
@@ -51,7 +52,7 @@ fn after_list(head: &[u32]) -> &[u32]
     after(after(head, 1), word(head, 0) as usize)
 }
 
-fn put_buffer(p: Place, n: u32, a: u32, head: &[u32], out: &mut [u8]) -> Place
+fn put_buffer(p: Cursor, n: u32, a: u32, head: &[u32], out: &mut [u8]) -> Cursor
     ensures { λ r. ⌜ laid r (now (out .exit))
         ≡ emitOf (wholeBuffer n a (now (head .entry))) (laid p (now (out .entry))) ⌝ }
 {
@@ -71,6 +72,6 @@ fn put_buffer(p: Place, n: u32, a: u32, head: &[u32], out: &mut [u8]) -> Place
 pub fn lay(n: u32, a: u32, head: &[u32], out: &mut [u8]) -> usize
     ensures { λ r. ⌜ asShown r (now (out .exit)) ≡ windowOf 0 (wholeBuffer n a (now (head .entry))) (now (out .entry)) ⌝ }
 {
-    let p = put_buffer(Place::new(0), n, a, head, out);
+    let p = put_buffer(Cursor::new(0), n, a, head, out);
     p.at
 }

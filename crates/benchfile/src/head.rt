@@ -1,16 +1,16 @@
 // A call's number, argument and head words: whether they fit, and what they describe.
 ghost use mathlib.Core.Path.{_≡_};
 ghost use lib.Dec.{eqb};
-ghost use Rattle.calls.specs.Pieces.{pieceOf};
 ghost use Rattle.benchfile.specs.Calls.{plain as Calls·plain};
-ghost use Rattle.benchfile.specs.Calls.{hasArgument, argumentWrong, anyWide, writeSize, writeBytes, listWrong};
+ghost use Rattle.benchfile.specs.Calls.{hasArgument, argumentWrong, anyWide, writeSize, writeBytes, listMisfit};
 ghost use Rattle.benchfile.specs.Calls.{transactionWrong, configWrong, headWrong, callWrong};
-ghost use Rattle.benchfile.specs.Calls.{configurationIn, configFrom, descriptionOf, listIn, operationsOf};
+ghost use Rattle.benchfile.specs.Calls.{configurationIn, configFrom, headDescription, listIn, operationsOf};
 use crate::part::after;
 use crate::part::first;
 use crate::part::word;
 use calls::Configuration;
 use calls::Description;
+use kinds::operation;
 use timing::RawTimingr;
 
 // The number by which a call is read: 24 to 29 are read like 8 to 13.
@@ -49,22 +49,14 @@ fn has_wide(words: &[u32]) -> bool
     false
 }
 
-pub fn is_read(o: u32) -> bool
-    ensures { λ r. ⌜ r ≡ pieceOf o .reads ⌝ }
-{
-    fields::flag(o, 16)
-}
-
-pub fn length(o: u32) -> u32
-    ensures { λ r. ⌜ r ≡ pieceOf o .size ⌝ }
-{
-    fields::get(o, 0, 16)
-}
-
 pub fn write_size(o: u32) -> usize
     ensures { λ r. ⌜ r ≡ writeSize o ⌝ }
 {
-    if is_read(o) { 0 } else { length(o) as usize }
+    if operation::is_read(o) {
+        0
+    } else {
+        operation::length(o) as usize
+    }
 }
 
 // Whether the writes of a list have just n bytes: counted down, so that no sum needs a bound.
@@ -84,7 +76,7 @@ fn has_write_bytes(ops: &[u32], n: usize) -> bool
 
 // The words after the count k.
 fn is_list_wrong(k: usize, words: &[u32]) -> bool
-    ensures { λ r. ⌜ r ≡ listWrong k (now (words .entry)) ⌝ }
+    ensures { λ r. ⌜ r ≡ listMisfit k (now (words .entry)) ⌝ }
 {
     let bytes = after(words, k);
     (words.len() < k) | (!has_write_bytes(first(words, k), bytes.len()) | has_wide(bytes))
@@ -146,7 +138,7 @@ fn config_from(n: u32) -> usize
 }
 
 pub fn describe(n: u32, a: u32, head: &[u32]) -> Description
-    ensures { λ r. ⌜ r ≡ descriptionOf n a (now (head .entry)) ⌝ }
+    ensures { λ r. ⌜ r ≡ headDescription n a (now (head .entry)) ⌝ }
 {
     Description {
         call: n,

@@ -9,7 +9,7 @@ use lib.Dec.{T, T-not, eqb, eqb→eq, lit<}
 use lib.ListN.{length, take, drop}
 use lib.Seq.{take-at, drop-at}
 use borrow.Author.Tests.{eq-eqb}
-use Rattle.advance_bytes.proofs.Pieces.{in-words}
+use Rattle.words.proofs.Turns.{in-words}
 use Rattle.calls.proofs.Accepted.{accepted-begin}
 use Rattle.calls.proofs.Cut.{part, runs, Stopped, refusal-stops, refuses, no-run, two-each}
 use Rattle.calls.proofs.Demand.{demand-3}
@@ -20,7 +20,8 @@ use Rattle.calls.specs.Advances.{Advance, Meets, isRefusal, Follows, none, but,
 use Rattle.calls.specs.Advances as advances
 use Rattle.calls.specs.Calls.{Request}
 use Rattle.calls.specs.Demand.{Demand3}
-use Rattle.calls.specs.Outcomes.{refusalNumber, reportNumber, reportValue}
+use Rattle.registers.specs.declared.Register.the-variants.{Cr1, Cr2, Oar1, Oar2, Timingr, Isr, Icr, Rxdr, Txdr}
+use Rattle.calls.specs.Outcomes.{refusedNumber, refusalNumber, reportNumber, reportValue, awaitedOf}
 use Rattle.calls.specs.Refusals.{requestOf, checkOf, accepts}
 use Rattle.calls.specs.Run.{Entry, wordsOf, noCall, begunBy, begunOf, Run, advanceFrom, runOf, finalBy}
 use Rattle.calls.specs.Steps.{beginOf}
@@ -38,12 +39,12 @@ use Rattle.driver.proofs.CameBack.{CameBack}
 use Rattle.saved.proofs.Round.{read-written}
 use Rattle.saved.proofs.Words.{accepted-small, begin-words, run-in-range}
 use Rattle.saved.specs.Range.{OfWords, RunInRange}
-use Rattle.saved.specs.Saved.{savedWords, savedBytes, savedIn, writtenTo}
+use Rattle.saved.specs.Saved.{savedLength, savedWords, savedBytes, savedIn, writtenTo}
 use Rattle.words.proofs.Round.{words-before, bytes-make-words}
 use Rattle.words.proofs.Turns.{length-bytes, words-drop}
 use Rattle.words.specs.Words.{Below, wordsIn, bytesOf}
-use Rattle.boundary.specs.Calls.{descriptionOf, operationsIn, verdictNumber, Begin, logAfter, Final}
-use Rattle.boundary.specs.Demand.{Beginning, Advancing, refused, InTurn, After, reportIn, asAdvance, ReadExactly, AllReadExactly, BoundaryDemand3}
+use Rattle.boundary.specs.Calls.{descriptionOf, operationsIn, verdictNumber, BeginLeft, logAfter, AdvanceLeft}
+use Rattle.boundary.specs.Demand.{BoundaryBegin, BoundaryAdvance, saysRefused, BytesInTurn, BytesAfter, reportIn, asAdvance, ReadExactly, AllReadExactly, BoundaryDemand3}
 use Rattle.boundary.specs.declared.call.CallDescription.{CallDescription}
 use Rattle.boundary.proofs.huskerivory_advance as advance
 use Rattle.boundary.proofs.huskerivory_advance.Reads as advance-reads
@@ -55,82 +56,94 @@ word = 4294967296
 
 -- ---- a report is read from its numbers
 record ReadBack (r : Report) : Type 0 where
-  report : reportIn (reportNumber r) (reportValue r) ≡ r
-  refusal : eqb (reportNumber r) 11 ≡ isRefusal r
+  report : (used written : ℕ) →
+      reportIn (record { report = reportNumber r; value = reportValue r; awaited = awaitedOf r; used = used; written = written }) ≡ r
+  refusal : eqb (reportNumber r) refusedNumber ≡ isRefusal r
 
 read-back : (r : Report) → ReadBack r
-read-back (Over (Done n)) = record { report = refl; refusal = refl }
-read-back (Over Bus) = record { report = refl; refusal = refl }
-read-back (Over Arbitration) = record { report = refl; refusal = refl }
-read-back (Over Nack) = record { report = refl; refusal = refl }
-read-back (Over WasStopped) = record { report = refl; refusal = refl }
-read-back (Over ExpectedWrite) = record { report = refl; refusal = refl }
-read-back (Over ExpectedRead) = record { report = refl; refusal = refl }
-read-back (Over (EventRead n)) = record { report = refl; refusal = refl }
-read-back (Over (EventWrite n)) = record { report = refl; refusal = refl }
-read-back (Over EventStop) = record { report = refl; refusal = refl }
-read-back Full = record { report = refl; refusal = refl }
-read-back Waiting = record { report = refl; refusal = refl }
-read-back (Refused Address) = record { report = refl; refusal = refl }
-read-back (Refused Long) = record { report = refl; refusal = refl }
-read-back (Refused BadList) = record { report = refl; refusal = refl }
-read-back (Refused Buffer) = record { report = refl; refusal = refl }
-read-back (Refused NoSuchCall) = record { report = refl; refusal = refl }
-read-back (Refused BadSavedCall) = record { report = refl; refusal = refl }
+read-back (Over (Done n)) = record { report = λ u w. refl; refusal = refl }
+read-back (Over Bus) = record { report = λ u w. refl; refusal = refl }
+read-back (Over Arbitration) = record { report = λ u w. refl; refusal = refl }
+read-back (Over Nack) = record { report = λ u w. refl; refusal = refl }
+read-back (Over WasStopped) = record { report = λ u w. refl; refusal = refl }
+read-back (Over ExpectedWrite) = record { report = λ u w. refl; refusal = refl }
+read-back (Over ExpectedRead) = record { report = λ u w. refl; refusal = refl }
+read-back (Over (EventRead n)) = record { report = λ u w. refl; refusal = refl }
+read-back (Over (EventWrite n)) = record { report = λ u w. refl; refusal = refl }
+read-back (Over EventStop) = record { report = λ u w. refl; refusal = refl }
+read-back Full = record { report = λ u w. refl; refusal = refl }
+read-back (Waiting Cr1) = record { report = λ u w. refl; refusal = refl }
+read-back (Waiting Cr2) = record { report = λ u w. refl; refusal = refl }
+read-back (Waiting Oar1) = record { report = λ u w. refl; refusal = refl }
+read-back (Waiting Oar2) = record { report = λ u w. refl; refusal = refl }
+read-back (Waiting Timingr) = record { report = λ u w. refl; refusal = refl }
+read-back (Waiting Isr) = record { report = λ u w. refl; refusal = refl }
+read-back (Waiting Icr) = record { report = λ u w. refl; refusal = refl }
+read-back (Waiting Rxdr) = record { report = λ u w. refl; refusal = refl }
+read-back (Waiting Txdr) = record { report = λ u w. refl; refusal = refl }
+read-back (Refused Address) = record { report = λ u w. refl; refusal = refl }
+read-back (Refused Long) = record { report = λ u w. refl; refusal = refl }
+read-back (Refused BadList) = record { report = λ u w. refl; refusal = refl }
+read-back (Refused Buffer) = record { report = λ u w. refl; refusal = refl }
+read-back (Refused NoSuchCall) = record { report = λ u w. refl; refusal = refl }
+read-back (Refused BadSavedCall) = record { report = λ u w. refl; refusal = refl }
 
 -- ---- what the contract says of one advance
 
-abbrev pub runIn : Advancing → Run
+abbrev pub runIn : BoundaryAdvance → Run
 runIn C =
     runOf (descriptionOf (C .description)) (operationsIn (C .operations)) (length (C .log) / 8) (savedIn (C .saved)) (C .buffer)
     (wordsIn (C .answers))
 
-pub record Said (C : Advancing) (R : Run) : Type 0 where
+pub record Said (C : BoundaryAdvance) (R : Run) : Type 0 where
   pub number : C .answer .report ≡ reportNumber (R .report)
   pub value : C .answer .value ≡ reportValue (R .report)
-  pub report : reportIn (C .answer .report) (C .answer .value) ≡ R .report
-  pub refusal : refused C ≡ isRefusal (R .report)
+  pub awaited : C .answer .awaited ≡ awaitedOf (R .report)
+  pub report : reportIn (C .answer) ≡ R .report
+  pub refusal : saysRefused C ≡ isRefusal (R .report)
   pub used : C .answer .used ≡ R .used
   pub written : C .answer .written ≡ length (R .entries)
-  pub saved : C .savedLeft ≡ cond (refused C) (C .saved) (writtenTo (C .saved) (R .saved))
+  pub saved : C .savedLeft ≡ cond (saysRefused C) (C .saved) (writtenTo (C .saved) (R .saved))
   pub buffer : C .bufferLeft ≡ R .buffer
   pub log : C .logLeft ≡ logAfter (R .entries) (C .log)
 
-pub said : (C : Advancing) → Said C (runIn C)
+pub said : (C : BoundaryAdvance) → Said C (runIn C)
 said C =
     let R : Run = runIn C in
-    let number : C .answer .report ≡ reportNumber (R .report) = ap (λ (F : Final). F .answer .report) (C .contract) in
-    let value : C .answer .value ≡ reportValue (R .report) = ap (λ (F : Final). F .answer .value) (C .contract) in
-    let refusal : refused C ≡ isRefusal (R .report) = rw number (read-back (R .report) .refusal) in
+    let number : C .answer .report ≡ reportNumber (R .report) = ap (λ (F : AdvanceLeft). F .answer .report) (C .contract) in
+    let value : C .answer .value ≡ reportValue (R .report) = ap (λ (F : AdvanceLeft). F .answer .value) (C .contract) in
+    let awaited : C .answer .awaited ≡ awaitedOf (R .report) = ap (λ (F : AdvanceLeft). F .answer .awaited) (C .contract) in
+    let refusal : saysRefused C ≡ isRefusal (R .report) = rw number (read-back (R .report) .refusal) in
     record {
       number = number;
       value = value;
-      report = (λ i. reportIn (number i) (value i)) ∙ read-back (R .report) .report;
+      awaited = awaited;
+      report = ap reportIn (ap (λ (F : AdvanceLeft). F .answer) (C .contract)) ∙ read-back (R .report) .report (R .used) (length (R .entries));
       refusal = refusal;
-      used = ap (λ (F : Final). F .answer .used) (C .contract);
-      written = ap (λ (F : Final). F .answer .written) (C .contract);
-      saved = rw refusal (ap (λ (F : Final). F .saved) (C .contract));
-      buffer = ap (λ (F : Final). F .buffer) (C .contract);
-      log = ap (λ (F : Final). F .log) (C .contract);
+      used = ap (λ (F : AdvanceLeft). F .answer .used) (C .contract);
+      written = ap (λ (F : AdvanceLeft). F .answer .written) (C .contract);
+      saved = rw refusal (ap (λ (F : AdvanceLeft). F .saved) (C .contract));
+      buffer = ap (λ (F : AdvanceLeft). F .buffer) (C .contract);
+      log = ap (λ (F : AdvanceLeft). F .log) (C .contract);
     }
 
-module _ (C : Advancing) where
+module _ (C : BoundaryAdvance) where
   abbrev R : Run
   R = runIn C
 
-  pub same-refusal : advances.refused (asAdvance C) ≡ refused C
+  pub same-refusal : advances.refused (asAdvance C) ≡ saysRefused C
   same-refusal = ap isRefusal (said C .report) ∙ sym (said C .refusal)
 
-  refused-as : T (refused C) → T (advances.refused (asAdvance C))
+  refused-as : T (saysRefused C) → T (advances.refused (asAdvance C))
   refused-as h = rw same-refusal h
 
-  accepted-as : T (not (refused C)) → T (not (advances.refused (asAdvance C)))
+  accepted-as : T (not (saysRefused C)) → T (not (advances.refused (asAdvance C)))
   accepted-as h = rw same-refusal h
 
   -- Nothing is lost where the saved call is read as the run's, and the entries' numbers are words.
   record Exact : Type 0 where
     saved : savedIn (C .savedLeft) ≡ R .saved
-    saved-bytes : T (not (refused C)) → C .savedLeft ≡ savedBytes (savedIn (C .savedLeft))
+    saved-bytes : T (not (saysRefused C)) → C .savedLeft ≡ savedBytes (savedIn (C .savedLeft))
     entries : Below word (wordsOf (R .entries))
 
   eight-each : 8 * length (R .entries) ≡ 4 * length (wordsOf (R .entries))
@@ -153,21 +166,21 @@ module _ (C : Advancing) where
       ∙ ap (λ (k : ℕ). finalBy (wordsIn (C .log)) (runOf (descriptionOf (C .description)) (operationsIn (C .operations)) k (savedIn (C .saved)) (C .buffer) (wordsIn (C .answers)))) places
 
   -- a refused one did nothing
-  pub stopped : T (refused C) → Stopped (savedIn (C .saved)) (C .buffer) R
+  pub stopped : T (saysRefused C) → Stopped (savedIn (C .saved)) (C .buffer) R
   unfolding runOf
   stopped h =
       refusal-stops (checkOf (descriptionOf (C .description)) (operationsIn (C .operations)) (length (C .buffer)))
       (descriptionOf (C .description)) (operationsIn (C .operations)) (length (C .log) / 8) (savedIn (C .saved)) (C .buffer)
       (wordsIn (C .answers)) (rw (said C .refusal) at h)
 
-  refused-saved : T (refused C) → C .savedLeft ≡ C .saved
-  refused-saved h = rw (is-true (refused C) h) at (said C .saved)
+  refused-saved : T (saysRefused C) → C .savedLeft ≡ C .saved
+  refused-saved h = rw (is-true (saysRefused C) h) at (said C .saved)
 
-  refused-exact : T (refused C) → Exact
+  refused-exact : T (saysRefused C) → Exact
   refused-exact h =
       record {
         saved = ap savedIn (refused-saved h) ∙ sym (stopped h .saved);
-        saved-bytes = λ a. absurd (T-not (refused C) a h);
+        saved-bytes = λ a. absurd (T-not (saysRefused C) a h);
         entries = rw (stopped h .entries) tt;
       }
 
@@ -182,6 +195,7 @@ module _ (C : Advancing) where
       record {
         report = rw (s .report) (s .number);
         value = rw (s .report) (s .value);
+        awaited = rw (s .report) (s .awaited);
         entries = rw (words, s .written, s .log) (take-at (bytesOf ws) (drop (8 * length (R .entries)) (C .log)) (8 * length (R .entries)) (omega arith));
         others = rw (s .written, s .log) (drop-at (bytesOf ws) (drop (8 * length (R .entries)) (C .log)) (8 * length (R .entries)) (omega arith));
         saved = x .saved-bytes;
@@ -192,27 +206,27 @@ module _ (C : Advancing) where
 
 -- ---- the list, by what each accepted advance keeps of the saved bytes and the buffer
 module _ (a : CallDescription) (o : List ℕ) (Inv : List ℕ → List ℕ → Type 0)
-    (keeps : (C : Advancing) → C .description ≡ a → C .operations ≡ o → T (not (refused C)) → Inv (C .saved) (C .buffer) →
+    (keeps : (C : BoundaryAdvance) → C .description ≡ a → C .operations ≡ o → T (not (saysRefused C)) → Inv (C .saved) (C .buffer) →
     Exact C × Inv (C .savedLeft) (C .bufferLeft)) where
-  record Followed (Cs : List Advancing) (s b : List ℕ) : Type 0 where
+  record Followed (Cs : List BoundaryAdvance) (s b : List ℕ) : Type 0 where
     follows : Follows (descriptionOf a) (operationsIn o) (map asAdvance Cs) (savedIn s) b
     exactly : AllReadExactly Cs
 
-  meets-at : (C : Advancing) (s : List ℕ) → C .saved ≡ s → Exact C → Meets (asAdvance C) (savedIn s)
+  meets-at : (C : BoundaryAdvance) (s : List ℕ) → C .saved ≡ s → Exact C → Meets (asAdvance C) (savedIn s)
   meets-at C s e x = subst (λ (s : List ℕ). Meets (asAdvance C) (savedIn s)) e (meets C x)
 
-  followed : (Cs : List Advancing) (s b : List ℕ) → Inv s b → InTurn a o s b Cs → Followed Cs s b
+  followed : (Cs : List BoundaryAdvance) (s b : List ℕ) → Inv s b → BytesInTurn a o s b Cs → Followed Cs s b
   followed [] s b i h = record { follows = none; exactly = tt }
   followed (C ∷ Cs) s b i h =
       let g = h .0 in
-      both (refused C)
+      both (saysRefused C)
       (λ r.
       let x = refused-exact C r in
-      let f = followed Cs (C .savedLeft) b (rw (refused-saved C r, g .saved) i) (rw (is-true (refused C) r) at (h .1)) in
+      let f = followed Cs (C .savedLeft) b (rw (refused-saved C r, g .saved) i) (rw (is-true (saysRefused C) r) at (h .1)) in
       record { follows = but {A = asAdvance C} (meets-at C s (g .saved) x) (refused-as C r) (f .follows); exactly = (reads-exactly C x, f .exactly) })
       (λ n.
       let k = keeps C (g .description n) (g .operations n) n (rw (g .saved, g .buffer n) i) in
-      let f = followed Cs (C .savedLeft) (C .bufferLeft) (k .1) (rw (is-false (refused C) n) at (h .1)) in
+      let f = followed Cs (C .savedLeft) (C .bufferLeft) (k .1) (rw (is-false (saysRefused C) n) at (h .1)) in
       record {
         follows =
             then {A = asAdvance C} (meets-at C s (g .saved) (k .0)) (ap descriptionOf (g .description n)) (ap operationsIn (g .operations n)) (g .buffer n)
@@ -221,11 +235,11 @@ module _ (a : CallDescription) (o : List ℕ) (Inv : List ℕ → List ℕ → T
       })
 
 -- ---- the saved call's bytes
-pub written-here : (bytes : List ℕ) (s : SavedCall) → length bytes ≡ 32 → writtenTo bytes s ≡ savedBytes s
+pub written-here : (bytes : List ℕ) (s : SavedCall) → length bytes ≡ savedLength → writtenTo bytes s ≡ savedBytes s
 unfolding writtenTo
-written-here bytes s h = rw (eq-eqb (length bytes) 32 h)
+written-here bytes s h = rw (eq-eqb (length bytes) savedLength h)
 
-saved-length : (s : SavedCall) → length (savedBytes s) ≡ 32
+saved-length : (s : SavedCall) → length (savedBytes s) ≡ savedLength
 unfolding savedBytes
 saved-length s = length-bytes (savedWords s)
 
@@ -233,13 +247,13 @@ no-words : OfWords noCall
 no-words = search (lit<, tt)
 
 -- where there is no place for a saved call none can be read
-no-place : (bytes : List ℕ) (s : SavedCall) → T (not (eqb (length bytes) 32)) → savedIn (writtenTo bytes s) ≡ noCall
+no-place : (bytes : List ℕ) (s : SavedCall) → T (not (eqb (length bytes) savedLength)) → savedIn (writtenTo bytes s) ≡ noCall
 unfolding writtenTo savedIn
-no-place bytes s h = (let e = is-false (eqb (length bytes) 32) h in rw (e, e))
+no-place bytes s h = (let e = is-false (eqb (length bytes) savedLength) h in rw (e, e))
 
 no-call : (bytes : List ℕ) → savedIn (writtenTo bytes noCall) ≡ noCall
 no-call bytes =
-    both (eqb (length bytes) 32)
+    both (eqb (length bytes) savedLength)
     (λ h. ap savedIn (written-here bytes noCall (eqb→eq _ _ h)) ∙ read-written noCall no-words)
     (no-place bytes noCall)
 
@@ -260,7 +274,7 @@ module _ (c : Call) (a : CallDescription) (o : List ℕ) (n : ℕ) (ok : checkOf
       let r : savedIn s ≡ t = ap savedIn e ∙ read-written t w in
       record { size = z; bytes = e ∙ sym (ap savedBytes r); accepted = rw r h; of-words = rw r w }
 
-  goes-on : (C : Advancing) → C .description ≡ a → C .operations ≡ o → T (not (refused C)) → Good (C .saved) (C .buffer) →
+  goes-on : (C : BoundaryAdvance) → C .description ≡ a → C .operations ≡ o → T (not (saysRefused C)) → Good (C .saved) (C .buffer) →
       Exact C × Good (C .savedLeft) (C .bufferLeft)
   goes-on C e f r g =
       let k : ℕ = length (C .log) / 8 in
@@ -272,36 +286,36 @@ module _ (c : Call) (a : CallDescription) (o : List ℕ) (n : ℕ) (ok : checkOf
       let I : RunInRange q S =
       run-in-range q (accepted-small c (descriptionOf a) (operationsIn o) n ok) k s (C .buffer) l
       (record { accepted = g .accepted; of-words = g .of-words; bytes = C .buffer-bytes }) (bytes-make-words (C .answers) (C .answer-bytes)) in
-      let long : length (C .saved) ≡ 32 = ap length (g .bytes) ∙ saved-length s in
+      let long : length (C .saved) ≡ savedLength = ap length (g .bytes) ∙ saved-length s in
       let left : C .savedLeft ≡ savedBytes (S .saved) =
-      said C .saved ∙ rw (is-false (refused C) r, is) (written-here (C .saved) (S .saved) long) in
+      said C .saved ∙ rw (is-false (saysRefused C) r, is) (written-here (C .saved) (S .saved) long) in
       let G : Good (C .savedLeft) (C .bufferLeft) =
       good (S .saved) (C .savedLeft) (C .bufferLeft) left (I .after .accepted) (I .after .of-words)
       (ap length (said C .buffer) ∙ rw is (part q k s (C .buffer) l .size) ∙ z) in
       (record { saved = rw (left, is) (read-written (S .saved) (I .after .of-words)); saved-bytes = λ _. G .bytes; entries = rw is (I .entries) }, G)
 
 -- ---- and after a refused one
-none-goes-on : (C : Advancing) → T (not (refused C)) → savedIn (C .saved) ≡ noCall → ⊥
+none-goes-on : (C : BoundaryAdvance) → T (not (saysRefused C)) → savedIn (C .saved) ≡ noCall → ⊥
 unfolding runOf
 none-goes-on C r e =
     let d : Description = descriptionOf (C .description) in
     let ops : List ℕ = operationsIn (C .operations) in
-    let h : T (refused C) = rw (said C .refusal, e) (refuses (checkOf d ops (length (C .buffer))) d ops (length (C .log) / 8) (C .buffer) (wordsIn (C .answers))) in
-    T-not (refused C) r h
+    let h : T (saysRefused C) = rw (said C .refusal, e) (refuses (checkOf d ops (length (C .buffer))) d ops (length (C .log) / 8) (C .buffer) (wordsIn (C .answers))) in
+    T-not (saysRefused C) r h
 
 -- ---- what the contract says of a begin
 begun-saved : (d : Description) (ops : List ℕ) (n : ℕ) (c : Call) → checkOf d ops n ≡ Accepted c → begunOf d ops n .saved ≡ beginOf (requestOf c d ops n)
 unfolding begunOf
 begun-saved d ops n c e = rw e
 
-pub record BeginSaid (B : Beginning) (v : Verdict) : Type 0 where
+pub record BeginSaid (B : BoundaryBegin) (v : Verdict) : Type 0 where
   pub refusal : B .refusal ≡ verdictNumber v (length (B .saved))
   pub saved : B .savedLeft ≡ writtenTo (B .saved) (begunBy v (descriptionOf (B .description)) (operationsIn (B .operations)) (length (B .buffer)) .saved)
 
-pub begin-said : (B : Beginning) (v : Verdict) → checkOf (descriptionOf (B .description)) (operationsIn (B .operations)) (length (B .buffer)) ≡ v → BeginSaid B v
+pub begin-said : (B : BoundaryBegin) (v : Verdict) → checkOf (descriptionOf (B .description)) (operationsIn (B .operations)) (length (B .buffer)) ≡ v → BeginSaid B v
 unfolding begunOf
-begin-said B (Rejected r) e = record { refusal = ap (λ (x : Begin). x .refusal) (B .contract) ∙ rw e; saved = ap (λ (x : Begin). x .saved) (B .contract) ∙ rw e }
-begin-said B (Accepted c) e = record { refusal = ap (λ (x : Begin). x .refusal) (B .contract) ∙ rw e; saved = ap (λ (x : Begin). x .saved) (B .contract) ∙ rw e }
+begin-said B (Rejected r) e = record { refusal = ap (λ (x : BeginLeft). x .refusal) (B .contract) ∙ rw e; saved = ap (λ (x : BeginLeft). x .saved) (B .contract) ∙ rw e }
+begin-said B (Accepted c) e = record { refusal = ap (λ (x : BeginLeft). x .refusal) (B .contract) ∙ rw e; saved = ap (λ (x : BeginLeft). x .saved) (B .contract) ∙ rw e }
 
 -- ---- the theorem
 pub positive : (r : Refusal) → 0 < refusalNumber r
@@ -312,7 +326,7 @@ positive Buffer = lit< tt
 positive NoSuchCall = lit< tt
 positive BadSavedCall = lit< tt
 
-module _ (B : Beginning) (Cs : List Advancing) (after : After B Cs) where
+module _ (B : BoundaryBegin) (Cs : List BoundaryAdvance) (after : BytesAfter B Cs) where
   abbrev d : Description
   d = descriptionOf (B .description)
 
@@ -358,9 +372,9 @@ module _ (B : Beginning) (Cs : List Advancing) (after : After B Cs) where
   by-verdict (Accepted c) e =
       let s = begin-said B (Accepted c) e in
       let t : SavedCall = beginOf (requestOf c d ops size) in
-      both (eqb (length (B .saved)) 32)
-      (λ h. begun c e (s .refusal ∙ rw (is-true (eqb (length (B .saved)) 32) h)) (s .saved ∙ written-here (B .saved) t (eqb→eq _ _ h)))
-      (λ h. not-begun (rw (s .refusal, is-false (eqb (length (B .saved)) 32) h) (lit< tt)) (rw (s .saved) (no-place (B .saved) t h)))
+      both (eqb (length (B .saved)) savedLength)
+      (λ h. begun c e (s .refusal ∙ rw (is-true (eqb (length (B .saved)) savedLength) h)) (s .saved ∙ written-here (B .saved) t (eqb→eq _ _ h)))
+      (λ h. not-begun (rw (s .refusal, is-false (eqb (length (B .saved)) savedLength) h) (lit< tt)) (rw (s .saved) (no-place (B .saved) t h)))
 
   pub demand : BoundaryDemand3 B Cs
   demand = by-verdict (checkOf d ops size) refl
@@ -373,7 +387,7 @@ BeginCall = CameBack begin.ended begin-reads.Post
 abbrev pub AdvanceCall : Type 0
 AdvanceCall = CameBack advance.ended advance-reads.Post
 
-abbrev pub beginning : BeginCall → Beginning
+abbrev pub beginning : BeginCall → BoundaryBegin
 beginning C =
     let (description, (operations, (buffer, (saved, _)))) = C .given in
     let (_, (_, (_, (savedLeft, _)))) = C .left in
@@ -387,7 +401,7 @@ beginning C =
       contract = C .contract;
     }
 
-abbrev pub advancing : AdvanceCall → Advancing
+abbrev pub advancing : AdvanceCall → BoundaryAdvance
 advancing C =
     let (description, (operations, (saved, (buffer, (answers, (log, _)))))) = C .given in
     let (_, (_, (savedLeft, (bufferLeft, (_, (logLeft, _)))))) = C .left in
@@ -408,6 +422,6 @@ advancing C =
     }
 
 -- every begin, and every list of advances after it
-pub boundary-demand-3 : (B : BeginCall) (Cs : List AdvanceCall) → After (beginning B) (map advancing Cs) →
+pub boundary-demand-3 : (B : BeginCall) (Cs : List AdvanceCall) → BytesAfter (beginning B) (map advancing Cs) →
     BoundaryDemand3 (beginning B) (map advancing Cs)
 boundary-demand-3 B Cs h = demand (beginning B) (map advancing Cs) h

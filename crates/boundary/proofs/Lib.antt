@@ -1,4 +1,3 @@
-pub mod Awaited
 pub mod Answers
 pub mod Demand
 pub mod Restated

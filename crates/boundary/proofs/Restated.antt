@@ -6,11 +6,11 @@ use mathlib.Core.Bool.{Bool, true, false, not, _&&_}
 use lib.Dec.{T, eqb, leb, lit<}
 use lib.ListN.{length}
 use borrow.Author.Tests.{eq-eqb, lt-leb}
-use Rattle.advance_bytes.proofs.Pieces.{in-words}
+use Rattle.words.proofs.Turns.{in-words}
 use Rattle.calls.proofs.Joined.{within}
 use Rattle.calls.proofs.Logic.{is-true, is-false}
 use Rattle.calls.specs.Advances.{given}
-use Rattle.calls.specs.Outcomes.{refusalNumber, reportNumber}
+use Rattle.calls.specs.Outcomes.{waitingNumber, refusedNumber, refusalNumber, reportNumber, awaitedOf}
 use Rattle.calls.specs.Refusals.{checkOf}
 use Rattle.calls.specs.Run.{noCall, Run}
 use Rattle.calls.specs.Steps.{beginOf}
@@ -27,17 +27,17 @@ use Rattle.driver.specs.Next.{nextFor}
 use Rattle.fields.specs.Field.{place, getOf, putOf, withBits}
 use Rattle.registers.specs.Map.{offsetOf}
 use Rattle.registers.specs.declared.Register.{Register}
-use Rattle.saved.specs.Saved.{savedBytes, savedIn, writtenTo}
+use Rattle.saved.specs.Saved.{savedLength, savedBytes, savedIn, writtenTo}
 use Rattle.timing.proofs.Round.{Within, packs, unpack-pack, pack-unpack}
 use Rattle.timing.specs.Bands.{timingOf, bandOf, inBandOf, equalAt, doubleAt}
-use Rattle.timing.specs.Refusals.{numberOf as timingNumber}
-use Rattle.timing.specs.Timingr.{wordOf, packOf, unpackOf}
+use Rattle.timing.specs.Refusals.{timingRefusalNumber as timingNumber}
+use Rattle.timing.specs.Timingr.{timingrWord, packOf, unpackOf}
 use Rattle.timing.specs.declared.I2cTiming.{I2cTiming}
-use Rattle.timing.specs.declared.Refusal as timing-refusal
+use Rattle.timing.specs.declared.TimingRefusal as timing-refusal
 use Rattle.timing.specs.declared.Timed.the-variants.{Timing, Refused as NotTimed}
 use Rattle.words.specs.Words.{Below, wordsIn}
-use Rattle.boundary.specs.Calls.{descriptionOf, operationsIn, accessAnswer, awaitedBy, Final}
-use Rattle.boundary.specs.Demand.{Beginning, Advancing, refused, requestIn}
+use Rattle.boundary.specs.Calls.{descriptionOf, operationsIn, accessAnswer}
+use Rattle.boundary.specs.Demand.{BoundaryBegin, BoundaryAdvance, saysRefused, requestIn}
 use Rattle.boundary.specs.Timing.{packedAnswer, timedAnswer, timingFrom, fieldsFrom}
 use Rattle.boundary.specs.declared.TimingAnswer.{TimingAnswer}
 use Rattle.boundary.proofs.Demand.{runIn, said, stopped, written-here, begin-said, positive, BeginCall, beginning, AdvanceCall, advancing}
@@ -55,10 +55,10 @@ abbrev TimingCall : Type 0
 TimingCall = CameBack timing.ended timing-reads.Post
 
 timing-word : (C : TimingCall) (t : I2cTiming) → let (clock, (frequency, _)) = C .given in
-    timingOf clock frequency ≡ Timing t → C .gave ≡ record { refusal = 0; timingr = wordOf t }
+    timingOf clock frequency ≡ Timing t → C .gave ≡ record { refusal = 0; timingr = timingrWord t }
 timing-word C t e = C .contract ∙ ap timedAnswer e
 
-timing-refused : (C : TimingCall) (why : timing-refusal.Refusal) → let (clock, (frequency, _)) = C .given in
+timing-refused : (C : TimingCall) (why : timing-refusal.TimingRefusal) → let (clock, (frequency, _)) = C .given in
     timingOf clock frequency ≡ NotTimed why → C .gave ≡ record { refusal = timingNumber why; timingr = 0 }
 timing-refused C why e = C .contract ∙ ap timedAnswer e
 
@@ -81,7 +81,7 @@ packed-unpacked P U a b c d e f =
     let t : I2cTiming = timingFrom presc scldel sdadel sclh scll in
     let w : Within t = record { presc = a; scldel = b; sdadel = c; sclh = d; scll = e } in
     let said = P .contract ∙ ap packedAnswer (packs t w) in
-    let word : U .given .0 ≡ wordOf t = f ∙ ap (λ (A : TimingAnswer). A .timingr) said in
+    let word : U .given .0 ≡ timingrWord t = f ∙ ap (λ (A : TimingAnswer). A .timingr) said in
     (ap (λ (A : TimingAnswer). A .refusal) said, U .contract ∙ rw word (ap fieldsFrom (unpack-pack t w)))
 
 unpacked-packed : (U : UnpackCall) (P : PackCall) → let w : ℕ = U .given .0 in
@@ -111,32 +111,32 @@ pack-wide P =
     )
 
 -- ---- begin: 0 and the begun call's bytes, or a refusal's number and the bytes that no advance takes; a place of another length
--- than 32 is left as it was
+-- is left as it was
 module _ (B : BeginCall) where
-  abbrev begin : Beginning
+  abbrev begin : BoundaryBegin
   begin = beginning B
 
   abbrev verdict : Verdict
   verdict = checkOf (descriptionOf (begin .description)) (operationsIn (begin .operations)) (length (begin .buffer))
 
-  begin-accepted : (c : Call) → verdict ≡ Accepted c → length (begin .saved) ≡ 32 →
+  begin-accepted : (c : Call) → verdict ≡ Accepted c → length (begin .saved) ≡ savedLength →
       (begin .refusal ≡ 0) × (begin .savedLeft ≡ savedBytes (beginOf (requestIn begin c)))
   begin-accepted c e l =
       let s = begin-said begin (Accepted c) e in
-      (s .refusal ∙ rw (eq-eqb (length (begin .saved)) 32 l), s .saved ∙ written-here (begin .saved) (beginOf (requestIn begin c)) l)
+      (s .refusal ∙ rw (eq-eqb (length (begin .saved)) savedLength l), s .saved ∙ written-here (begin .saved) (beginOf (requestIn begin c)) l)
 
-  begin-refused : (r : Refusal) → verdict ≡ Rejected r → length (begin .saved) ≡ 32 →
+  begin-refused : (r : Refusal) → verdict ≡ Rejected r → length (begin .saved) ≡ savedLength →
       (begin .refusal ≡ refusalNumber r) × (begin .savedLeft ≡ savedBytes noCall)
   begin-refused r e l =
       let s = begin-said begin (Rejected r) e in
       (s .refusal, s .saved ∙ written-here (begin .saved) noCall l)
 
-  begin-elsewhere : T (not (eqb (length (begin .saved)) 32)) → (begin .savedLeft ≡ begin .saved) × (0 < begin .refusal)
+  begin-elsewhere : T (not (eqb (length (begin .saved)) savedLength)) → (begin .savedLeft ≡ begin .saved) × (0 < begin .refusal)
   unfolding writtenTo
   begin-elsewhere h = go verdict refl
     where
-      f : eqb (length (begin .saved)) 32 ≡ false
-      f = is-false (eqb (length (begin .saved)) 32) h
+      f : eqb (length (begin .saved)) savedLength ≡ false
+      f = is-false (eqb (length (begin .saved)) savedLength) h
 
       go : (v : Verdict) → verdict ≡ v → (begin .savedLeft ≡ begin .saved) × (0 < begin .refusal)
       go (Accepted c) e = (let s = begin-said begin (Accepted c) e in (s .saved ∙ rw f, rw (s .refusal, f) (lit< tt)))
@@ -144,14 +144,14 @@ module _ (B : BeginCall) where
 
 -- ---- one advance, whatever it was lent: it stays within its slices; a refused one uses nothing, writes nothing and leaves each
 -- byte; a waiting one names the register that the next access reads, and no other names one
-awaits-nothing : (r : Report) (n : Next) → T (not (eqb (reportNumber r) 10)) → awaitedBy r n ≡ 0
-awaits-nothing (Over o) n h = refl
-awaits-nothing Full n h = refl
-awaits-nothing Waiting n h = absurd h
-awaits-nothing (Refused r) n h = refl
+awaits-nothing : (r : Report) → T (not (eqb (reportNumber r) waitingNumber)) → awaitedOf r ≡ 0
+awaits-nothing (Over o) h = refl
+awaits-nothing Full h = refl
+awaits-nothing (Waiting k) h = absurd h
+awaits-nothing (Refused r) h = refl
 
 module _ (C : AdvanceCall) where
-  abbrev advance : Advancing
+  abbrev advance : BoundaryAdvance
   advance = advancing C
 
   abbrev R : Run
@@ -165,32 +165,26 @@ module _ (C : AdvanceCall) where
       (savedIn (advance .saved)) (advance .buffer) (wordsIn (advance .answers)) in
       (rw (s .written) (w .entries), rw (s .used, ← in-words (advance .answers)) (w .used), ap length (s .buffer) ∙ w .buffer)
 
-  advance-refused : advance .answer .report ≡ 11 →
+  advance-refused : advance .answer .report ≡ refusedNumber →
       (advance .answer .used ≡ 0) × (advance .answer .written ≡ 0) × (advance .savedLeft ≡ advance .saved)
       × (advance .bufferLeft ≡ advance .buffer) × (advance .logLeft ≡ advance .log)
   advance-refused e =
       let s = said advance in
-      let h : T (refused advance) = rw e tt in
+      let h : T (saysRefused advance) = rw e tt in
       let z = stopped advance h in (
         s .used ∙ z .used,
         s .written ∙ ap length (z .entries),
-        s .saved ∙ rw (is-true (refused advance) h),
+        s .saved ∙ rw (is-true (saysRefused advance) h),
         s .buffer ∙ z .buffer,
         s .log ∙ rw (z .entries),
       )
 
-  advance-awaits : advance .answer .report ≡ 10 → (r : Register) →
-      nextFor (descriptionOf (advance .description)) (operationsIn (advance .operations)) (R .saved) (R .buffer) ≡ next.Read r →
-      advance .answer .awaited ≡ offsetOf r
-  advance-awaits e r f =
-      let w : R .report ≡ Waiting = sym (said advance .report) ∙ rw e in
-      ap (λ (F : Final). F .answer .awaited) (advance .contract) ∙ rw (w, f)
+  advance-awaits : (r : Register) → R .report ≡ Waiting r → (advance .answer .report ≡ waitingNumber) × (advance .answer .awaited ≡ offsetOf r)
+  advance-awaits r e = (said advance .number ∙ rw e, said advance .awaited ∙ rw e)
 
-  advance-awaits-nothing : T (not (eqb (advance .answer .report) 10)) → advance .answer .awaited ≡ 0
+  advance-awaits-nothing : T (not (eqb (advance .answer .report) waitingNumber)) → advance .answer .awaited ≡ 0
   advance-awaits-nothing h =
-      ap (λ (F : Final). F .answer .awaited) (advance .contract)
-      ∙ awaits-nothing (R .report) (nextFor (descriptionOf (advance .description)) (operationsIn (advance .operations)) (R .saved) (R .buffer))
-      (rw (← said advance .number) h)
+      said advance .awaited ∙ awaits-nothing (R .report) (rw (← said advance .number) h)
 
   -- what was lent were bytes
   advance-lent : Below 256 (advance .buffer) × Below 256 (advance .answers)

@@ -8,18 +8,23 @@ use mathlib.Core.List.{List, [], _∷_, _++_, map}
 use lib.Dec.{T, T-not, eqb, eqb→eq}
 use lib.ListN.{length, getD, take, drop, replicate}
 use borrow.Author.Tests.{ne-eqb}
-use Rattle.advance_bytes.proofs.Pieces.{in-words}
+use Rattle.words.proofs.Turns.{in-words}
+use Rattle.registers.specs.Map.{offsetOf}
+use Rattle.registers.specs.declared.Register.{Register}
 use Rattle.calls.proofs.Logic.{is-true, is-false}
-use Rattle.calls.specs.Advances.{Advance, made, joined, given, bufferAfter, savedAfter, Last, last, orElse, lastAccepted, isRead, Came, over, full, waiting, NoneRefused, Untouched, RefusedUntouched, AllRefused, answersIn, NoRun}
+use Rattle.calls.specs.Advances.{Advance, made, joined, given, bufferAfter, savedAfter, Last, last, orElse, lastAccepted, Came, over, full, waiting, NoneRefused, Untouched, RefusedUntouched, AllRefused, answersIn, NoRun}
 use Rattle.calls.specs.Advances as advances
 use Rattle.calls.specs.Bytes.{EndedAs, callerBytes, readPlaces, bytesAt, writeCount}
-use Rattle.calls.specs.Calls.{Request, numberOf, transaction, manual, receives, transmits}
+use Rattle.calls.specs.Calls.{Request, callNumber, transaction, manual, receives, transmits}
 use Rattle.calls.specs.Demand.{left}
-use Rattle.calls.specs.Outcomes.{outcomeNumber, outcomeValue, reportNumber, reportValue}
+use Rattle.calls.specs.Next.{nextOf}
+use Rattle.calls.specs.Outcomes.{waitingNumber, refusedNumber, fullNumber, outcomeNumber, outcomeValue, reportNumber, reportValue, awaitedOf}
 use Rattle.calls.specs.Refusals.{anyOf}
 use Rattle.calls.specs.Run.{Entry, wordsOf, uncutOf, noCall, putOut, takenIn}
-use Rattle.calls.specs.Steps.{accessOf, beginOf, is}
+use Rattle.calls.specs.Steps.{accessOf, beginOf, sameStep}
 use Rattle.calls.specs.declared.Description.{Description}
+use Rattle.calls.specs.declared.Next.{Next}
+use Rattle.calls.specs.declared.Next.the-variants as next
 use Rattle.calls.specs.declared.Outcome.the-variants.{Done}
 use Rattle.calls.specs.declared.Report.the-variants.{Over, Full, Waiting}
 use Rattle.calls.specs.declared.SavedCall.{SavedCall}
@@ -30,7 +35,7 @@ use Rattle.saved.specs.Saved.{savedBytes, savedIn}
 use Rattle.words.proofs.Turns.{bytes-append}
 use Rattle.words.specs.Words.{wordsIn, bytesOf}
 use Rattle.boundary.specs.Calls.{descriptionOf, operationsIn}
-use Rattle.boundary.specs.Demand.{refused, InTurn, asAdvance, reportIn, requestIn, Ran, ReadExactly, AllReadExactly, BoundaryDemand3}
+use Rattle.boundary.specs.Demand.{saysRefused, BytesInTurn, asAdvance, registers, registerIn, requestIn, Ran, ReadExactly, AllReadExactly, BoundaryDemand3}
 use Rattle.boundary.specs.declared.call.CallDescription.{CallDescription}
 use Rattle.boundary.proofs.Demand.{same-refusal, BeginCall, beginning, AdvanceCall, advancing, boundary-demand-3}
 
@@ -38,24 +43,24 @@ use Rattle.boundary.proofs.Demand.{same-refusal, BeginCall, beginning, 
 data Linked (d : CallDescription) (ops : List ℕ) : List AdvanceCall → List ℕ → List ℕ → Type 0 where
   end : {s b : List ℕ} → Linked d ops [] s b
   apart : {C : AdvanceCall} {Cs : List AdvanceCall} {s b : List ℕ} →
-      advancing C .saved ≡ s → advancing C .answer .report ≡ 11 → Linked d ops Cs (advancing C .savedLeft) b → Linked d ops (C ∷ Cs) s b
+      advancing C .saved ≡ s → advancing C .answer .report ≡ refusedNumber → Linked d ops Cs (advancing C .savedLeft) b → Linked d ops (C ∷ Cs) s b
   on : {C : AdvanceCall} {Cs : List AdvanceCall} {s b : List ℕ} →
       advancing C .saved ≡ s → advancing C .description ≡ d → advancing C .operations ≡ ops → advancing C .buffer ≡ b →
-      T (not (eqb (advancing C .answer .report) 11)) → Linked d ops Cs (advancing C .savedLeft) (advancing C .bufferLeft) → Linked d ops (C ∷ Cs) s b
+      T (not (eqb (advancing C .answer .report) refusedNumber)) → Linked d ops Cs (advancing C .savedLeft) (advancing C .bufferLeft) → Linked d ops (C ∷ Cs) s b
 
-not-both : (C : AdvanceCall) {X : Type 0} → C .gave .report ≡ 11 → T (not (refused (advancing C))) → X
-not-both C e n = (let h : T (refused (advancing C)) = rw e tt in absurd (T-not (refused (advancing C)) n h))
+not-both : (C : AdvanceCall) {X : Type 0} → C .gave .report ≡ refusedNumber → T (not (saysRefused (advancing C))) → X
+not-both C e n = (let h : T (saysRefused (advancing C)) = rw e tt in absurd (T-not (saysRefused (advancing C)) n h))
 
-in-turn : (d : CallDescription) (ops : List ℕ) (Cs : List AdvanceCall) (s b : List ℕ) → Linked d ops Cs s b → InTurn d ops s b (map advancing Cs)
+in-turn : (d : CallDescription) (ops : List ℕ) (Cs : List AdvanceCall) (s b : List ℕ) → Linked d ops Cs s b → BytesInTurn d ops s b (map advancing Cs)
 in-turn d ops [] s b end = tt
 in-turn d ops (C ∷ Cs) s b (apart e r l) =
-    let h : T (refused (advancing C)) = rw r tt in (
+    let h : T (saysRefused (advancing C)) = rw r tt in (
       record { saved = e; description = not-both C r; operations = not-both C r; buffer = not-both C r },
-      rw (is-true (refused (advancing C)) h) (in-turn d ops Cs _ b l),
+      rw (is-true (saysRefused (advancing C)) h) (in-turn d ops Cs _ b l),
     )
 in-turn d ops (C ∷ Cs) s b (on e f g h n l) = (
   record { saved = e; description = λ _. f; operations = λ _. g; buffer = λ _. h },
-  rw (is-false (refused (advancing C)) n) (in-turn d ops Cs _ _ l),
+  rw (is-false (saysRefused (advancing C)) n) (in-turn d ops Cs _ _ l),
 )
 
 -- What the calls did together, in bytes: the entries' bytes, the answers used, and what is left of the saved call and the buffer.
@@ -73,7 +78,7 @@ lastSaved (C ∷ Cs) s = lastSaved Cs (advancing C .savedLeft)
 
 abbrev lastBuffer : List AdvanceCall → List ℕ → List ℕ
 lastBuffer [] b = b
-lastBuffer (C ∷ Cs) b = lastBuffer Cs (cond (eqb (C .gave .report) 11) b (advancing C .bufferLeft))
+lastBuffer (C ∷ Cs) b = lastBuffer Cs (cond (eqb (C .gave .report) refusedNumber) b (advancing C .bufferLeft))
 
 -- it is what demand 3 says of the advances that they are
 abbrev As : List AdvanceCall → List Advance
@@ -87,7 +92,7 @@ same-buffer : (Cs : List AdvanceCall) (b : List ℕ) → bufferAfter (As Cs) b �
 same-buffer [] b = refl
 same-buffer (C ∷ Cs) b =
     ap (λ (r : Bool). bufferAfter (As Cs) (cond r b (advancing C .bufferLeft))) (same-refusal (advancing C))
-    ∙ same-buffer Cs (cond (eqb (C .gave .report) 11) b (advancing C .bufferLeft))
+    ∙ same-buffer Cs (cond (eqb (C .gave .report) refusedNumber) b (advancing C .bufferLeft))
 
 same-saved : (Cs : List AdvanceCall) (s : List ℕ) → savedAfter (As Cs) (savedIn s) ≡ savedIn (lastSaved Cs s)
 same-saved [] s = refl
@@ -103,12 +108,12 @@ saved-whole : (d : CallDescription) (ops : List ℕ) (Cs : List AdvanceCall) (s 
     s ≡ savedBytes (savedIn s) → lastSaved Cs s ≡ savedBytes (savedIn (lastSaved Cs s))
 saved-whole d ops [] s b end x e = e
 saved-whole d ops (C ∷ Cs) s b (apart f r l) x e =
-    let h : T (refused (advancing C)) = rw r tt in
+    let h : T (saysRefused (advancing C)) = rw r tt in
     saved-whole d ops Cs _ b l (x .1) (rw (x .0 .refused-saved h, f) e)
 saved-whole d ops (C ∷ Cs) s b (on f _ _ _ n l) x e = saved-whole d ops Cs _ _ l (x .1) (x .0 .saved n)
 
-the-last : (Cs : List AdvanceCall) (C : AdvanceCall) → T (not (refused (advancing C))) → lastAccepted (As (Cs ++ C ∷ [])) ≡ last (asAdvance (advancing C))
-the-last [] C n = (let r = is-false (refused (advancing C)) n in rw (same-refusal (advancing C), r))
+the-last : (Cs : List AdvanceCall) (C : AdvanceCall) → T (not (saysRefused (advancing C))) → lastAccepted (As (Cs ++ C ∷ [])) ≡ last (asAdvance (advancing C))
+the-last [] C n = (let r = is-false (saysRefused (advancing C)) n in rw (same-refusal (advancing C), r))
 the-last (D ∷ Cs) C n = ap (λ (L : Last). orElse L (advances.refused (asAdvance (advancing D))) (asAdvance (advancing D))) (the-last Cs C n)
 
 exact-at : (before : List AdvanceCall) (C : AdvanceCall) (after : List AdvanceCall) → AllReadExactly (map advancing (before ++ C ∷ after)) →
@@ -129,6 +134,12 @@ untouched-at s [] C after x = x .0
 untouched-at s (D ∷ before) C after x = untouched-at _ before C after (x .1)
 
 -- after a begin that returned 0
+-- the next access is a read of the register at that offset
+record Awaits (x : Next) (at : ℕ) : Type 0 where
+  register : Register
+  read : x ≡ next.Read register
+  offset : at ≡ offsetOf register
+
 module _ (B : BeginCall) (Cs : List AdvanceCall) (z : B .gave ≡ 0)
     (l : Linked (beginning B .description) (beginning B .operations) Cs (beginning B .savedLeft) (beginning B .buffer)) where
   demand : BoundaryDemand3 (beginning B) (map advancing Cs)
@@ -160,7 +171,7 @@ module _ (B : BeginCall) (Cs : List AdvanceCall) (z : B .gave ≡ 0)
   same-left = rw (← same-begun) (same-saved Cs (beginning B .savedLeft))
 
   -- its number is the description's
-  the-call : numberOf (ran .call) ≡ B .given .0 .call
+  the-call : callNumber (ran .call) ≡ B .given .0 .call
   the-call = ran .named
 
   -- the entries are those of the uncut run over the answers used, whatever answers follow, and buffer and saved call are its own
@@ -174,7 +185,7 @@ module _ (B : BeginCall) (Cs : List AdvanceCall) (z : B .gave ≡ 0)
   one-to-each-read = ran .kept .one-run .answers ∙ same-answers Cs
 
   -- an ended call stays as it is
-  stays-ended : T (is (saved .step) Ended) → (m : ℕ) (rest : List ℕ) →
+  stays-ended : T (sameStep (saved .step) Ended) → (m : ℕ) (rest : List ℕ) →
       uncutOf q (length log + m) (beginOf q) begun (answersUsed Cs ++ rest) ≡ record { saved = saved; buffer = buffer; log = log }
   stays-ended h m rest =
       let r = ran .kept .one-run in
@@ -233,30 +244,30 @@ module _ (B : BeginCall) (Cs : List AdvanceCall) (z : B .gave ≡ 0)
 
     -- lent the begun description it is not refused
     not-refused : advancing C .description ≡ beginning B .description → advancing C .operations ≡ beginning B .operations →
-        length (advancing C .buffer) ≡ length begun → T (not (eqb (C .gave .report) 11))
+        length (advancing C .buffer) ≡ length begun → T (not (eqb (C .gave .report) refusedNumber))
     not-refused e f g =
         let h = none-refused-at _ _ _ before C after (rw among at (ran .kept .one-run .accepted)) in
         rw (← same-refusal (advancing C)) (h (ap descriptionOf e) (ap operationsIn f) g)
 
     -- refused it uses nothing, and leaves each byte
-    uses-nothing : C .gave .report ≡ 11 → (C .gave .used ≡ 0) × (C .gave .written ≡ 0)
+    uses-nothing : C .gave .report ≡ refusedNumber → (C .gave .used ≡ 0) × (C .gave .written ≡ 0)
     uses-nothing e =
         let h : T (advances.refused (asAdvance (advancing C))) = rw (same-refusal (advancing C), e) tt in
         let t = subst (λ (Xs : List AdvanceCall). RefusedUntouched (As Xs) (beginOf q)) among (ran .kept .one-run .untouched) in
         let u = untouched-at (beginOf q) before C after t h in
         (u .used, u .written)
 
-    leaves-each-byte : C .gave .report ≡ 11 →
+    leaves-each-byte : C .gave .report ≡ refusedNumber →
         (advancing C .savedLeft ≡ advancing C .saved) × (advancing C .bufferLeft ≡ advancing C .buffer) × (advancing C .logLeft ≡ advancing C .log)
     leaves-each-byte e =
-        let h : T (refused (advancing C)) = rw e tt in
+        let h : T (saysRefused (advancing C)) = rw e tt in
         (exact .refused-saved h, exact .refused-buffer h, exact .refused-log h)
 
     past-its-entries : drop (8 * C .gave .written) (advancing C .logLeft) ≡ drop (8 * C .gave .written) (advancing C .log)
     past-its-entries = exact .others
 
   -- the last of the calls, if it was not refused, says the outcome just if the run has ended
-  module _ (before : List AdvanceCall) (C : AdvanceCall) (is-last : Cs ≡ before ++ C ∷ []) (n : T (not (refused (advancing C)))) where
+  module _ (before : List AdvanceCall) (C : AdvanceCall) (is-last : Cs ≡ before ++ C ∷ []) (n : T (not (saysRefused (advancing C)))) where
     came : Came q saved buffer (asAdvance (advancing C))
     came =
         let e : lastAccepted (As Cs) ≡ last (asAdvance (advancing C)) = rw is-last (the-last before C n) in
@@ -265,49 +276,60 @@ module _ (B : BeginCall) (Cs : List AdvanceCall) (z : B .gave ≡ 0)
     exact-last : ReadExactly (advancing C)
     exact-last = exact before C [] is-last
 
-    says-outcome : T (is (saved .step) Ended) → (C .gave .report ≡ outcomeNumber (saved .outcome)) × (C .gave .value ≡ outcomeValue (saved .outcome))
+    says-outcome : T (sameStep (saved .step) Ended) → (C .gave .report ≡ outcomeNumber (saved .outcome)) × (C .gave .value ≡ outcomeValue (saved .outcome))
     says-outcome h = go came
       where
         go : Came q saved buffer (asAdvance (advancing C)) → (C .gave .report ≡ outcomeNumber (saved .outcome)) × (C .gave .value ≡ outcomeValue (saved .outcome))
         go (over _ r) = (exact-last .report ∙ ap reportNumber r, exact-last .value ∙ ap reportValue r)
-        go (full m _ _) = absurd (T-not (is (saved .step) Ended) m h)
-        go (waiting m _ _ _ _) = absurd (T-not (is (saved .step) Ended) m h)
+        go (full m _ _) = absurd (T-not (sameStep (saved .step) Ended) m h)
+        go (waiting _ m _ _ _ _) = absurd (T-not (sameStep (saved .step) Ended) m h)
 
-    says-full-or-waiting : T (not (is (saved .step) Ended)) → T (eqb (C .gave .report) 12 || eqb (C .gave .report) 10)
+    says-full-or-waiting : T (not (sameStep (saved .step) Ended)) → T (eqb (C .gave .report) fullNumber || eqb (C .gave .report) waitingNumber)
     says-full-or-waiting h = go came
       where
-        go : Came q saved buffer (asAdvance (advancing C)) → T (eqb (C .gave .report) 12 || eqb (C .gave .report) 10)
-        go (over e _) = absurd (T-not (is (saved .step) Ended) h e)
-        go (full _ _ r) = (let e : C .gave .report ≡ 12 = exact-last .report ∙ ap reportNumber r in rw e tt)
-        go (waiting _ _ _ _ r) = (let e : C .gave .report ≡ 10 = exact-last .report ∙ ap reportNumber r in rw e tt)
+        go : Came q saved buffer (asAdvance (advancing C)) → T (eqb (C .gave .report) fullNumber || eqb (C .gave .report) waitingNumber)
+        go (over e _) = absurd (T-not (sameStep (saved .step) Ended) h e)
+        go (full _ _ r) = (let e : C .gave .report ≡ fullNumber = exact-last .report ∙ ap reportNumber r in rw e tt)
+        go (waiting _ _ _ _ _ r) = (let e : C .gave .report ≡ waitingNumber = exact-last .report ∙ ap reportNumber r in rw e tt)
 
-    -- full: every place of its log is used; waiting: a place is left, every answer is used, and the next access is a read
-    says-full : C .gave .report ≡ 12 → C .gave .written ≡ length (advancing C .log) / 8
+    -- full: every place of its log is used; waiting: a place is left, every answer is used, and the next access is a read of the
+    -- register that is named
+    says-full : C .gave .report ≡ fullNumber → C .gave .written ≡ length (advancing C .log) / 8
     says-full e = go came
       where
         go : Came q saved buffer (asAdvance (advancing C)) → C .gave .written ≡ length (advancing C .log) / 8
-        go (over _ r) = (let r′ : Full ≡ Over (saved .outcome) = ap (λ (n : ℕ). reportIn n (C .gave .value)) (sym e) ∙ r in let z : _≡_ {A = ℕ} 0 1 = cc in absurd (omega arith))
+        go (over _ r) = (let r′ : Full ≡ Over (saved .outcome) = rw e at r in let z : _≡_ {A = ℕ} 0 1 = cc in absurd (omega arith))
         go (full _ w _) = omega (arith, in-words (advancing C .log))
-        go (waiting _ _ _ _ r) = (let r′ : Full ≡ Waiting = ap (λ (n : ℕ). reportIn n (C .gave .value)) (sym e) ∙ r in let z : _≡_ {A = ℕ} 0 1 = cc in absurd (omega arith))
+        go (waiting k _ _ _ _ r) = (let r′ : Full ≡ Waiting k = rw e at r in let z : _≡_ {A = ℕ} 0 1 = cc in absurd (omega arith))
 
-    says-waiting : C .gave .report ≡ 10 →
-        (C .gave .written < length (advancing C .log) / 8) × (C .gave .used ≡ length (advancing C .answers) / 4) × T (isRead (accessOf q buffer saved))
+    says-waiting : C .gave .report ≡ waitingNumber →
+        (C .gave .written < length (advancing C .log) / 8) × (C .gave .used ≡ length (advancing C .answers) / 4)
+        × Awaits (nextOf (accessOf q buffer saved)) (C .gave .awaited)
     says-waiting e = go came
       where
         go : Came q saved buffer (asAdvance (advancing C)) →
-            (C .gave .written < length (advancing C .log) / 8) × (C .gave .used ≡ length (advancing C .answers) / 4) × T (isRead (accessOf q buffer saved))
-        go (over _ r) = (let r′ : Waiting ≡ Over (saved .outcome) = ap (λ (n : ℕ). reportIn n (C .gave .value)) (sym e) ∙ r in let z : _≡_ {A = ℕ} 0 1 = cc in absurd (omega arith))
-        go (full _ _ r) = (let r′ : Waiting ≡ Full = ap (λ (n : ℕ). reportIn n (C .gave .value)) (sym e) ∙ r in let z : _≡_ {A = ℕ} 0 1 = cc in absurd (omega arith))
-        go (waiting _ w h u _) = (omega (arith, in-words (advancing C .log)), u ∙ in-words (advancing C .answers), h)
+            (C .gave .written < length (advancing C .log) / 8) × (C .gave .used ≡ length (advancing C .answers) / 4)
+            × Awaits (nextOf (accessOf q buffer saved)) (C .gave .awaited)
+        go (over _ r) =
+            (let r′ : Waiting (registerIn registers (C .gave .awaited)) ≡ Over (saved .outcome) = rw e at r in
+            let z : _≡_ {A = ℕ} 0 1 = cc in absurd (omega arith))
+        go (full _ _ r) =
+            (let r′ : Waiting (registerIn registers (C .gave .awaited)) ≡ Full = rw e at r in
+            let z : _≡_ {A = ℕ} 0 1 = cc in absurd (omega arith))
+        go (waiting k _ w h u r) = (
+          omega (arith, in-words (advancing C .log)),
+          u ∙ in-words (advancing C .answers),
+          record { register = k; read = h; offset = exact-last .awaited ∙ ap awaitedOf r },
+        )
 
 -- after a begin that returned a refusal's number
 abbrev Refusals : List AdvanceCall → Type 0
 Refusals [] = Unit {0}
-Refusals (C ∷ Cs) = (C .gave .report ≡ 11) × Refusals Cs
+Refusals (C ∷ Cs) = (C .gave .report ≡ refusedNumber) × Refusals Cs
 
 same-refusals : (Cs : List AdvanceCall) → AllRefused (As Cs) → Refusals Cs
 same-refusals [] h = tt
-same-refusals (C ∷ Cs) h = (eqb→eq (C .gave .report) 11 (rw (same-refusal (advancing C)) at (h .0)), same-refusals Cs (h .1))
+same-refusals (C ∷ Cs) h = (eqb→eq (C .gave .report) refusedNumber (rw (same-refusal (advancing C)) at (h .0)), same-refusals Cs (h .1))
 
 no-answers : (Cs : List AdvanceCall) (s : SavedCall) → AllRefused (As Cs) → RefusedUntouched (As Cs) s → answersUsed Cs ≡ []
 no-answers [] s h u = refl

@@ -7,9 +7,9 @@ use lib.ListN.{length, take, drop}
 use Rattle.registers.specs.Map.{offsetOf}
 use Rattle.words.specs.Words.{wordsIn, bytesOf}
 use Rattle.address_words.specs.Words.{modeOf, configIn}
-use Rattle.saved.specs.Saved.{savedIn, writtenTo}
+use Rattle.saved.specs.Saved.{savedLength, savedIn, writtenTo}
 use Rattle.calls.specs.Advances.{isRefusal}
-use Rattle.calls.specs.Outcomes.{refusalNumber, reportNumber, reportValue}
+use Rattle.calls.specs.Outcomes.{refusalNumber, reportNumber, reportValue, awaitedOf}
 use Rattle.calls.specs.Run.{Entry, wordsOf, Run, begunOf, runOf}
 use Rattle.calls.specs.declared.Begun.{Begun}
 use Rattle.calls.specs.declared.Configuration.{Configuration}
@@ -17,11 +17,8 @@ use Rattle.calls.specs.declared.Configuration.the-variants.{Unconfigured, Confi
 use Rattle.calls.specs.declared.Description.{Description}
 use Rattle.calls.specs.declared.Next.{Next}
 use Rattle.calls.specs.declared.Next.the-variants.{Over, Read, Write, Refused}
-use Rattle.calls.specs.declared.Report.{Report}
-use Rattle.calls.specs.declared.Report.the-variants as report
 use Rattle.calls.specs.declared.Verdict.{Verdict}
 use Rattle.calls.specs.declared.Verdict.the-variants.{Accepted, Refused as Rejected}
-use Rattle.calls.specs.declared.View.{View}
 use Rattle.driver.specs.Next.{nextFor}
 use Rattle.boundary.specs.declared.call.AccessAnswer.{AccessAnswer}
 use Rattle.boundary.specs.declared.call.AdvanceAnswer.{AdvanceAnswer}
@@ -54,66 +51,60 @@ descriptionOf a =
 abbrev pub operationsIn : List ℕ → List ℕ
 operationsIn bytes = take 65 (wordsIn bytes)
 
--- ---- Begin: 0 or the number of the refusal, and the saved call as bytes. A place for it that has not 32 bytes is refused as 13,
--- after what is wrong with the description, and left as it is.
+-- ---- Begin: 0 or the number of the refusal, and the saved call as bytes. A place for it of another length is refused
+-- as 13, after what is wrong with the description, and left as it is.
 abbrev pub verdictNumber : Verdict → ℕ → ℕ
 verdictNumber (Rejected r) n = refusalNumber r
-verdictNumber (Accepted c) n = cond (eqb n 32) 0 13
+verdictNumber (Accepted c) n = cond (eqb n savedLength) 0 13
 
-pub record Begin : Type 0 where
+pub record BeginLeft : Type 0 where
   pub refusal : ℕ
   pub saved : List ℕ
 
-abbrev pub asBegin : ℕ → List ℕ → Begin
-asBegin n saved = record { refusal = n; saved = saved }
+abbrev pub asBeginLeft : ℕ → List ℕ → BeginLeft
+asBeginLeft n saved = record { refusal = n; saved = saved }
 
-abbrev pub beginBy : Begun → List ℕ → Begin
-beginBy B saved = asBegin (verdictNumber (B .verdict) (length saved)) (writtenTo saved (B .saved))
+abbrev pub beginLeftBy : Begun → List ℕ → BeginLeft
+beginLeftBy B saved = asBeginLeft (verdictNumber (B .verdict) (length saved)) (writtenTo saved (B .saved))
 
-abbrev pub beginIn : Description → List ℕ → ℕ → List ℕ → Begin
-beginIn d ops n saved = beginBy (begunOf d ops n) saved
+abbrev pub beginLeftIn : Description → List ℕ → ℕ → List ℕ → BeginLeft
+beginLeftIn d ops n saved = beginLeftBy (begunOf d ops n) saved
 
 -- ---- The next access: 0 over, 1 a read, 2 a write, 3 refused; and the register's offset or the refusal's number.
-abbrev pub access : ℕ → ℕ → AccessAnswer
-access kind value = record { kind = kind; value = value }
+abbrev pub accessOf : ℕ → ℕ → AccessAnswer
+accessOf kind value = record { kind = kind; value = value }
 
 abbrev pub accessAnswer : Next → AccessAnswer
-accessAnswer Over = access 0 0
-accessAnswer (Read r) = access 1 (offsetOf r)
-accessAnswer (Write r) = access 2 (offsetOf r)
-accessAnswer (Refused why) = access 3 (refusalNumber why)
+accessAnswer Over = accessOf 0 0
+accessAnswer (Read r) = accessOf 1 (offsetOf r)
+accessAnswer (Write r) = accessOf 2 (offsetOf r)
+accessAnswer (Refused why) = accessOf 3 (refusalNumber why)
 
 abbrev pub accessIn : Description → List ℕ → List ℕ → List ℕ → AccessAnswer
 accessIn d ops saved b = accessAnswer (nextFor d ops (savedIn saved) b)
 
 -- ---- Advance: its report by document 01's numbers, and for `waiting` the offset of the register whose word is awaited. A refused
 -- one leaves all bytes as they were. A place of the log is eight bytes; its entries stand first, the other bytes are as they were.
-abbrev pub awaitedBy : Report → Next → ℕ
-awaitedBy report.Waiting next = accessAnswer next .value
-awaitedBy (report.Over o) next = 0
-awaitedBy report.Full next = 0
-awaitedBy (report.Refused r) next = 0
-
-pub record Final : Type 0 where
+pub record AdvanceLeft : Type 0 where
   pub answer : AdvanceAnswer
   pub saved : List ℕ
   pub buffer : List ℕ
   pub log : List ℕ
 
-abbrev pub asFinal : AdvanceAnswer → List ℕ → List ℕ → List ℕ → Final
-asFinal a saved b log = record { answer = a; saved = saved; buffer = b; log = log }
+abbrev pub asAdvanceLeft : AdvanceAnswer → List ℕ → List ℕ → List ℕ → AdvanceLeft
+asAdvanceLeft a saved b log = record { answer = a; saved = saved; buffer = b; log = log }
 
 abbrev pub logAfter : List Entry → List ℕ → List ℕ
 logAfter es log = bytesOf (wordsOf es) ++ drop (8 * length es) log
 
-abbrev pub finalBy : Description → List ℕ → Run → List ℕ → List ℕ → Final
-finalBy d ops R saved log =
+abbrev pub advanceLeftBy : Run → List ℕ → List ℕ → AdvanceLeft
+advanceLeftBy R saved log =
     record {
       answer =
           record {
             report = reportNumber (R .report);
             value = reportValue (R .report);
-            awaited = awaitedBy (R .report) (nextFor d ops (R .saved) (R .buffer));
+            awaited = awaitedOf (R .report);
             used = R .used;
             written = length (R .entries);
           };
@@ -122,10 +113,6 @@ finalBy d ops R saved log =
       log = logAfter (R .entries) log;
     }
 
-abbrev pub finalIn : Description → List ℕ → List ℕ → List ℕ → List ℕ → List ℕ → Final
-finalIn d ops saved b answers log =
-    finalBy d ops (runOf d ops (length log / 8) (savedIn saved) b (wordsIn answers)) saved log
-
--- a piece whose bytes are read: where a call waits, BYTE reads
-abbrev pub readingView : View
-readingView = record { start = 0; size = 0; reads = true; last = false; same = false; reload = false; some = false }
+abbrev pub advanceLeftIn : Description → List ℕ → List ℕ → List ℕ → List ℕ → List ℕ → AdvanceLeft
+advanceLeftIn d ops saved b answers log =
+    advanceLeftBy (runOf d ops (length log / 8) (savedIn saved) b (wordsIn answers)) saved log

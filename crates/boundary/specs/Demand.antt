@@ -6,10 +6,13 @@ use mathlib.Core.Bool.{Bool, cond, not}
 use mathlib.Core.List.{List, [], _∷_, map}
 use lib.Dec.{T, eqb}
 use lib.ListN.{length, getD, take, drop}
+use Rattle.registers.specs.Map.{offsetOf}
+use Rattle.registers.specs.declared.Register.{Register}
+use Rattle.registers.specs.declared.Register.the-variants.{Cr1, Cr2, Oar1, Oar2, Timingr, Isr, Icr, Rxdr, Txdr}
 use Rattle.calls.specs.Advances.{Advance, NoRun}
-use Rattle.calls.specs.Calls.{Request, numberOf}
+use Rattle.calls.specs.Calls.{Request, callNumber}
 use Rattle.calls.specs.Demand.{Kept}
-use Rattle.calls.specs.Outcomes.{reportNumber, reportValue}
+use Rattle.calls.specs.Outcomes.{refusedNumber, reportNumber, reportValue, awaitedOf}
 use Rattle.calls.specs.Refusals.{requestOf}
 use Rattle.calls.specs.Steps.{beginOf}
 use Rattle.calls.specs.declared.Call.{Call}
@@ -20,23 +23,23 @@ use Rattle.calls.specs.declared.Report.{Report}
 use Rattle.calls.specs.declared.Report.the-variants.{Over, Full, Waiting, Refused}
 use Rattle.saved.specs.Saved.{savedBytes, savedIn}
 use Rattle.words.specs.Words.{Below, wordsIn, bytesOf}
-use Rattle.boundary.specs.Calls.{descriptionOf, operationsIn, asBegin, beginIn, asFinal, finalIn}
+use Rattle.boundary.specs.Calls.{descriptionOf, operationsIn, asBeginLeft, beginLeftIn, asAdvanceLeft, advanceLeftIn}
 use Rattle.boundary.specs.declared.call.AdvanceAnswer.{AdvanceAnswer}
 use Rattle.boundary.specs.declared.call.CallDescription.{CallDescription}
 
 -- ---- Calls that came back: what each was lent, what it returned, the lent bytes as it left them, and what its contract says
 -- of that.
 
-pub record Beginning : Type 0 where
+pub record BoundaryBegin : Type 0 where
   pub description : CallDescription
   pub operations : List ℕ
   pub buffer : List ℕ
   pub saved : List ℕ
   pub refusal : ℕ
   pub savedLeft : List ℕ
-  pub contract : asBegin refusal savedLeft ≡ beginIn (descriptionOf description) (operationsIn operations) (length buffer) saved
+  pub contract : asBeginLeft refusal savedLeft ≡ beginLeftIn (descriptionOf description) (operationsIn operations) (length buffer) saved
 
-pub record Advancing : Type 0 where
+pub record BoundaryAdvance : Type 0 where
   pub description : CallDescription
   pub operations : List ℕ
   pub saved : List ℕ
@@ -47,30 +50,30 @@ pub record Advancing : Type 0 where
   pub savedLeft : List ℕ
   pub bufferLeft : List ℕ
   pub logLeft : List ℕ
-  pub contract : asFinal answer savedLeft bufferLeft logLeft ≡ finalIn (descriptionOf description) (operationsIn operations) saved buffer answers log
+  pub contract : asAdvanceLeft answer savedLeft bufferLeft logLeft ≡ advanceLeftIn (descriptionOf description) (operationsIn operations) saved buffer answers log
   pub buffer-bytes : Below 256 buffer
   pub answer-bytes : Below 256 answers
 
 -- it reported `refused`, the twelfth of document 01's outcome words
-abbrev pub refused : Advancing → Bool
-refused C = eqb (C .answer .report) 11
+abbrev pub saysRefused : BoundaryAdvance → Bool
+saysRefused C = eqb (C .answer .report) refusedNumber
 
 -- ---- What goes from one advance to the next (same section: demand 3 is one statement on the whole list of advances). Each is
 -- handed the saved bytes as the last call left them. An accepted one is lent the begun description d, the begun operations ops,
 -- and the buffer b as the last accepted one left it; a refused one may be lent any others.
-pub record Handed (d : CallDescription) (ops s b : List ℕ) (C : Advancing) : Type 0 where
+pub record BytesHanded (d : CallDescription) (ops s b : List ℕ) (C : BoundaryAdvance) : Type 0 where
   pub saved : C .saved ≡ s
-  pub description : T (not (refused C)) → C .description ≡ d
-  pub operations : T (not (refused C)) → C .operations ≡ ops
-  pub buffer : T (not (refused C)) → C .buffer ≡ b
+  pub description : T (not (saysRefused C)) → C .description ≡ d
+  pub operations : T (not (saysRefused C)) → C .operations ≡ ops
+  pub buffer : T (not (saysRefused C)) → C .buffer ≡ b
 
-abbrev pub InTurn : CallDescription → List ℕ → List ℕ → List ℕ → List Advancing → Type 0
-InTurn d ops s b [] = Unit {0}
-InTurn d ops s b (C ∷ Cs) = Handed d ops s b C × InTurn d ops (C .savedLeft) (cond (refused C) b (C .bufferLeft)) Cs
+abbrev pub BytesInTurn : CallDescription → List ℕ → List ℕ → List ℕ → List BoundaryAdvance → Type 0
+BytesInTurn d ops s b [] = Unit {0}
+BytesInTurn d ops s b (C ∷ Cs) = BytesHanded d ops s b C × BytesInTurn d ops (C .savedLeft) (cond (saysRefused C) b (C .bufferLeft)) Cs
 
 -- the advances Cs after the begin B
-abbrev pub After : Beginning → List Advancing → Type 0
-After B Cs = InTurn (B .description) (B .operations) (B .savedLeft) (B .buffer) Cs
+abbrev pub BytesAfter : BoundaryBegin → List BoundaryAdvance → Type 0
+BytesAfter B Cs = BytesInTurn (B .description) (B .operations) (B .savedLeft) (B .buffer) Cs
 
 -- ---- What an advance says: its numbers as a report, and its bytes as words.
 
@@ -78,19 +81,27 @@ After B Cs = InTurn (B .description) (B .operations) (B .savedLeft) (B .buffer) 
 abbrev pub refusals : List Refusal
 refusals = Address ∷ Long ∷ BadList ∷ Buffer ∷ NoSuchCall ∷ BadSavedCall ∷ []
 
--- document 01's outcome words in their order (section "Bench"), with the value v; `full` comes last. That no other numbers come
--- up is a part of what holds: `ReadExactly`, below.
-abbrev pub reports : ℕ → List Report
-reports v =
+-- the register of an offset
+abbrev pub registers : List Register
+registers = Cr1 ∷ Cr2 ∷ Oar1 ∷ Oar2 ∷ Timingr ∷ Isr ∷ Icr ∷ Rxdr ∷ Txdr ∷ []
+
+abbrev pub registerIn : List Register → ℕ → Register
+registerIn [] offset = Txdr
+registerIn (r ∷ rs) offset = cond (eqb offset (offsetOf r)) r (registerIn rs offset)
+
+-- document 01's outcome words in their order (section "Bench"), with the value v and the awaited register's offset; `full` comes
+-- last. That no other numbers come up is a part of what holds: `ReadExactly`, below.
+abbrev pub reports : ℕ → ℕ → List Report
+reports v awaited =
     Over (Done v) ∷ Over Bus ∷ Over Arbitration ∷ Over Nack ∷ Over Stopped ∷ Over ExpectedWrite ∷ Over ExpectedRead
     ∷ Over (EventRead v) ∷ Over (EventWrite v) ∷ Over EventStop
-    ∷ Waiting ∷ Refused (getD refusals (v - 8) BadSavedCall) ∷ Full ∷ []
+    ∷ Waiting (registerIn registers awaited) ∷ Refused (getD refusals (v - 8) BadSavedCall) ∷ Full ∷ []
 
-abbrev pub reportIn : ℕ → ℕ → Report
-reportIn n v = getD (reports v) n Full
+abbrev pub reportIn : AdvanceAnswer → Report
+reportIn a = getD (reports (a .value) (a .awaited)) (a .report) Full
 
 -- so it is an advance as demand 3 speaks of one
-abbrev pub asAdvance : Advancing → Advance
+abbrev pub asAdvance : BoundaryAdvance → Advance
 asAdvance C =
     record {
       words = descriptionOf (C .description);
@@ -103,7 +114,7 @@ asAdvance C =
             used = C .answer .used;
             written = C .answer .written;
             saved = savedIn (C .savedLeft);
-            report = reportIn (C .answer .report) (C .answer .value);
+            report = reportIn (C .answer);
           };
       bufferLeft = C .bufferLeft;
       logLeft = wordsIn (C .logLeft);
@@ -111,35 +122,36 @@ asAdvance C =
 
 -- ---- What holds
 
-abbrev pub requestIn : Beginning → Call → Request
+abbrev pub requestIn : BoundaryBegin → Call → Request
 requestIn B c = requestOf c (descriptionOf (B .description)) (operationsIn (B .operations)) (length (B .buffer))
 
 -- Begin returned 0: it left the bytes of the begun call that the description names, and the advances are one uncut run of it,
 -- with all that demand 3 says of that.
-pub record Ran (B : Beginning) (As : List Advance) : Type 0 where
+pub record Ran (B : BoundaryBegin) (As : List Advance) : Type 0 where
   pub call : Call
-  pub named : numberOf call ≡ B .description .call
+  pub named : callNumber call ≡ B .description .call
   pub begun : B .savedLeft ≡ savedBytes (beginOf (requestIn B call))
   pub kept : Kept (requestIn B call) (B .buffer) As
 
--- Nothing is lost where an advance is read so: its two numbers are those of the report, the bytes of its entries and of its
+-- Nothing is lost where an advance is read so: its three numbers are those of the report, the bytes of its entries and of its
 -- saved call are those of the words and of the saved call. The log's other bytes are as they were, and a refused advance
 -- leaves every byte as it was.
-pub record ReadExactly (C : Advancing) : Type 0 where
+pub record ReadExactly (C : BoundaryAdvance) : Type 0 where
   pub report : C .answer .report ≡ reportNumber (asAdvance C .result .report)
   pub value : C .answer .value ≡ reportValue (asAdvance C .result .report)
+  pub awaited : C .answer .awaited ≡ awaitedOf (asAdvance C .result .report)
   pub entries : take (8 * C .answer .written) (C .logLeft) ≡ bytesOf (take (2 * C .answer .written) (wordsIn (C .logLeft)))
   pub others : drop (8 * C .answer .written) (C .logLeft) ≡ drop (8 * C .answer .written) (C .log)
-  pub saved : T (not (refused C)) → C .savedLeft ≡ savedBytes (savedIn (C .savedLeft))
-  pub refused-saved : T (refused C) → C .savedLeft ≡ C .saved
-  pub refused-buffer : T (refused C) → C .bufferLeft ≡ C .buffer
-  pub refused-log : T (refused C) → C .logLeft ≡ C .log
+  pub saved : T (not (saysRefused C)) → C .savedLeft ≡ savedBytes (savedIn (C .savedLeft))
+  pub refused-saved : T (saysRefused C) → C .savedLeft ≡ C .saved
+  pub refused-buffer : T (saysRefused C) → C .bufferLeft ≡ C .buffer
+  pub refused-log : T (saysRefused C) → C .logLeft ≡ C .log
 
-abbrev pub AllReadExactly : List Advancing → Type 0
+abbrev pub AllReadExactly : List BoundaryAdvance → Type 0
 AllReadExactly [] = Unit {0}
 AllReadExactly (C ∷ Cs) = ReadExactly C × AllReadExactly Cs
 
-pub record BoundaryDemand3 (B : Beginning) (Cs : List Advancing) : Type 0 where
+pub record BoundaryDemand3 (B : BoundaryBegin) (Cs : List BoundaryAdvance) : Type 0 where
   pub accepted : B .refusal ≡ 0 → Ran B (map asAdvance Cs)
   -- begin returned the number of a refusal: every advance is refused, and nothing was done
   pub refused : T (not (eqb (B .refusal) 0)) → NoRun (B .buffer) (map asAdvance Cs)

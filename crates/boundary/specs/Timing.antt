@@ -1,7 +1,7 @@
 -- What the C boundary gives for the timing's answers. Assumes nothing.
 use Prim.Native.Nat.{ℕ}
-use Rattle.timing.specs.Refusals.{numberOf}
-use Rattle.timing.specs.Timingr.{wordOf, packOf}
+use Rattle.timing.specs.Refusals.{timingRefusalNumber}
+use Rattle.timing.specs.Timingr.{timingrWord, packOf}
 use Rattle.timing.specs.declared.I2cTiming.{I2cTiming}
 use Rattle.timing.specs.declared.Packed.{Packed}
 use Rattle.timing.specs.declared.Packed.the-variants.{Raw, Refused}
@@ -17,16 +17,16 @@ answer refusal timingr = record { refusal = refusal; timingr = timingr }
 
 abbrev pub packedAnswer : Packed → TimingAnswer
 packedAnswer (Raw r) = answer 0 (r .0)
-packedAnswer (Refused why) = answer (numberOf why) 0
+packedAnswer (Refused why) = answer (timingRefusalNumber why) 0
 
 abbrev pub timedAnswer : Timed → TimingAnswer
-timedAnswer (Timing t) = answer 0 (wordOf t)
-timedAnswer (NotTimed why) = answer (numberOf why) 0
+timedAnswer (Timing t) = answer 0 (timingrWord t)
+timedAnswer (NotTimed why) = answer (timingRefusalNumber why) 0
 
 -- What the code does with a timing: it packs it. That this is never refused is `timing-packs` of the crate `timing`.
 abbrev pub packedTimed : Timed → TimingAnswer
 packedTimed (Timing t) = packedAnswer (packOf t)
-packedTimed (NotTimed why) = answer (numberOf why) 0
+packedTimed (NotTimed why) = answer (timingRefusalNumber why) 0
 
 abbrev pub timingFrom : ℕ → ℕ → ℕ → ℕ → ℕ → I2cTiming
 timingFrom presc scldel sdadel sclh scll =

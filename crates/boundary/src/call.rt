@@ -1,25 +1,19 @@
 // A call's description, its answers and its entries, over lists of words that were read from bytes.
 ghost use mathlib.Core.Path.{_≡_};
 ghost use mathlib.Core.Bool.{cond};
-ghost use mathlib.Core.List.{List};
-ghost use Prim.Native.Nat.{ℕ};
 ghost use lib.Dec.{eqb};
 ghost use lib.ListN.{length};
-ghost use Rattle.access.specs.Next.{nextOf};
 ghost use Rattle.calls.specs.Advances.{isRefusal};
-ghost use Rattle.calls.specs.Outcomes.{refusalNumber, reportNumber, reportValue};
-ghost use Rattle.calls.specs.Steps.{accessAt};
-ghost use Rattle.saved.specs.Saved.{writtenTo};
-ghost use Rattle.boundary.specs.Calls.{hasConfiguration, configurationOf, descriptionOf, verdictNumber, asBegin, beginIn, accessAnswer, accessIn, asFinal, finalIn, awaitedBy, readingView};
-use calls::Call;
+ghost use Rattle.saved.specs.Saved.{savedLength, writtenTo};
+ghost use Rattle.boundary.specs.Calls.{hasConfiguration, configurationOf, descriptionOf, verdictNumber, asBeginLeft, beginLeftIn, accessAnswer, accessIn, asAdvanceLeft, advanceLeftIn};
 use calls::Configuration;
 use calls::Description;
 use calls::Next;
-use calls::Refusal;
 use calls::Report;
 use calls::SavedCall;
 use calls::Verdict;
-use calls::View;
+use kinds::refusal;
+use kinds::report;
 use timing::RawTimingr;
 
 // What is asked, in numbers. A call looks only at those that belong to it.
@@ -88,24 +82,11 @@ pub fn describe(a: CallDescription) -> Description
     }
 }
 
-fn refusal_number(why: Refusal) -> u32
-    ensures { λ r. ⌜ r ≡ refusalNumber why ⌝ }
-{
-    match why {
-        Refusal::Address => 8,
-        Refusal::Long => 9,
-        Refusal::List => 10,
-        Refusal::Buffer => 11,
-        Refusal::NoSuchCall => 12,
-        Refusal::SavedCall => 13,
-    }
-}
-
-// A place for a saved call has 32 bytes.
+// A place for a saved call has its length.
 fn place_number(n: usize) -> u32
-    ensures { λ r. ⌜ r ≡ cond (eqb n 32) 0 13 ⌝ }
+    ensures { λ r. ⌜ r ≡ cond (eqb n savedLength) 0 13 ⌝ }
 {
-    if n == 32 { 0 } else { 13 }
+    if n == saved::LENGTH { 0 } else { 13 }
 }
 
 fn verdict_number(v: Verdict, n: usize) -> u32
@@ -113,12 +94,12 @@ fn verdict_number(v: Verdict, n: usize) -> u32
 {
     match v {
         Verdict::Accepted(_) => place_number(n),
-        Verdict::Refused(why) => refusal_number(why),
+        Verdict::Refused(why) => refusal::number(why),
     }
 }
 
 pub fn begin(d: Description, ops: &[u32], buffer: &[u8], saved: &mut [u8]) -> u32
-    ensures { λ r. ⌜ asBegin r (now (saved .exit)) ≡ beginIn d (now (ops .entry)) (length (now (buffer .entry))) (now (saved .entry)) ⌝ }
+    ensures { λ r. ⌜ asBeginLeft r (now (saved .exit)) ≡ beginLeftIn d (now (ops .entry)) (length (now (buffer .entry))) (now (saved .entry)) ⌝ }
 {
     let begun = driver::begin(d, ops, buffer);
     let call = begun.saved;
@@ -143,7 +124,7 @@ fn access_answer(next: Next) -> AccessAnswer
         },
         Next::Refused(why) => AccessAnswer {
             kind: 3,
-            value: refusal_number(why),
+            value: refusal::number(why),
         },
     }
 }
@@ -155,71 +136,11 @@ pub fn next(d: Description, ops: &[u32], saved: &[u8], buffer: &[u8]) -> AccessA
     access_answer(driver::next_access(d, ops, call, buffer))
 }
 
-fn report_number(report: Report) -> u32
-    ensures { λ r. ⌜ r ≡ reportNumber report ⌝ }
-{
-    match report {
-        Report::Over(o) => saved::outcome_number(o),
-        Report::Full => 12,
-        Report::Waiting => 10,
-        Report::Refused(_) => 11,
-    }
-}
-
-fn report_value(report: Report) -> u32
-    ensures { λ r. ⌜ r ≡ reportValue report ⌝ }
-{
-    match report {
-        Report::Over(o) => access::call::value(o),
-        Report::Full => 0,
-        Report::Waiting => 0,
-        Report::Refused(why) => refusal_number(why),
-    }
-}
-
-fn is_refusal(report: Report) -> bool
-    ensures { λ r. ⌜ r ≡ isRefusal report ⌝ }
-{
-    match report {
-        Report::Over(_) => false,
-        Report::Full => false,
-        Report::Waiting => false,
-        Report::Refused(_) => true,
-    }
-}
-
-// A piece whose bytes are read: where a call waits, BYTE can only read.
-fn reading() -> View
-    ensures { λ r. ⌜ r ≡ readingView ⌝ }
-{
-    View {
-        start: 0,
-        size: 0,
-        reads: true,
-        last: false,
-        same: false,
-        reload: false,
-        some: false,
-    }
-}
-
-// The offset of the register whose word a waiting call awaits: its step tells it.
-fn awaited(d: Description, report: Report, saved: SavedCall) -> u32
-    ensures { λ r. ⌜ ((c : Call) (b : List ℕ) → r ≡ awaitedBy report (nextOf (accessAt c d readingView b saved (saved .step)))) ⌝ }
-{
-    match report {
-        Report::Over(_) => 0,
-        Report::Full => 0,
-        Report::Waiting => access_answer(access::register_at(d, reading(), saved)).value,
-        Report::Refused(_) => 0,
-    }
-}
-
 // A refused call is left as it is.
 fn keep(report: Report, next: SavedCall, saved: &mut [u8])
     ensures { λ _. ⌜ now (saved .exit) ≡ cond (isRefusal report) (now (saved .entry)) (writtenTo (now (saved .entry)) next) ⌝ }
 {
-    if is_refusal(report) {
+    if report::is_refusal(report) {
         return;
     }
     saved::write(next, saved);
@@ -233,7 +154,7 @@ pub fn advance(
     answers: &[u8],
     log: &mut [u8],
 ) -> AdvanceAnswer
-    ensures { λ r. ⌜ asFinal r (now (saved .exit)) (now (buffer .exit)) (now (log .exit)) ≡ finalIn d (now (ops .entry)) (now (saved .entry)) (now (buffer .entry)) (now (answers .entry)) (now (log .entry)) ⌝ }
+    ensures { λ r. ⌜ asAdvanceLeft r (now (saved .exit)) (now (buffer .exit)) (now (log .exit)) ≡ advanceLeftIn d (now (ops .entry)) (now (saved .entry)) (now (buffer .entry)) (now (answers .entry)) (now (log .entry)) ⌝ }
 {
     let call = saved::read(saved);
     let far = advance_bytes::run(call, d, ops, buffer, answers, log);
@@ -241,9 +162,9 @@ pub fn advance(
     let next = far.saved;
     keep(report, next, saved);
     AdvanceAnswer {
-        report: report_number(report),
-        value: report_value(report),
-        awaited: awaited(d, report, next),
+        report: report::number(report),
+        value: report::value(report),
+        awaited: report::awaited(report),
         used: far.used,
         written: far.written,
     }

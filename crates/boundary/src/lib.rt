@@ -3,10 +3,10 @@
 ghost use mathlib.Core.Path.{_≡_};
 ghost use lib.ListN.{length};
 ghost use Rattle.timing.specs.Bands.{timingOf};
-ghost use Rattle.timing.specs.Refusals.{numberOf};
+ghost use Rattle.timing.specs.Refusals.{timingRefusalNumber};
 ghost use Rattle.timing.specs.Timingr.{packOf, unpackOf};
 ghost use Rattle.words.specs.Words.{Below};
-ghost use Rattle.boundary.specs.Calls.{descriptionOf, operationsIn, asBegin, beginIn, accessIn, asFinal, finalIn};
+ghost use Rattle.boundary.specs.Calls.{descriptionOf, operationsIn, asBeginLeft, beginLeftIn, accessIn, asAdvanceLeft, advanceLeftIn};
 ghost use Rattle.boundary.specs.Timing.{answer, packedAnswer, packedTimed, timedAnswer, timingFrom, fieldsFrom};
 use call::AccessAnswer;
 use call::AdvanceAnswer;
@@ -14,8 +14,8 @@ use call::CallDescription;
 use timing::I2cTiming;
 use timing::Packed;
 use timing::RawTimingr;
-use timing::Refusal;
 use timing::Timed;
+use timing::TimingRefusal;
 
 mod call;
 
@@ -35,8 +35,8 @@ pub struct TimingFields {
     pub scll: u8,
 }
 
-fn refused(why: Refusal) -> TimingAnswer
-    ensures { λ r. ⌜ r ≡ answer (numberOf why) 0 ⌝ }
+fn refused(why: TimingRefusal) -> TimingAnswer
+    ensures { λ r. ⌜ r ≡ answer (timingRefusalNumber why) 0 ⌝ }
 {
     TimingAnswer {
         refusal: why.number(),
@@ -123,7 +123,7 @@ pub extern "C" fn huskerivory_begin(
     buffer: &[u8],
     saved: &mut [u8],
 ) -> u32
-    ensures { λ r. ⌜ asBegin r (now (saved .exit)) ≡ beginIn (descriptionOf description) (operationsIn (now (operations .entry))) (length (now (buffer .entry))) (now (saved .entry)) ⌝ }
+    ensures { λ r. ⌜ asBeginLeft r (now (saved .exit)) ≡ beginLeftIn (descriptionOf description) (operationsIn (now (operations .entry))) (length (now (buffer .entry))) (now (saved .entry)) ⌝ }
 {
     let d = call::describe(description);
     let mut ops = list();
@@ -142,7 +142,7 @@ pub extern "C" fn huskerivory_advance(
     answers: &[u8],
     log: &mut [u8],
 ) -> AdvanceAnswer
-    ensures { λ r. ⌜ asFinal r (now (saved .exit)) (now (buffer .exit)) (now (log .exit)) ≡ finalIn (descriptionOf description) (operationsIn (now (operations .entry))) (now (saved .entry)) (now (buffer .entry)) (now (answers .entry)) (now (log .entry)) ⌝ }
+    ensures { λ r. ⌜ asAdvanceLeft r (now (saved .exit)) (now (buffer .exit)) (now (log .exit)) ≡ advanceLeftIn (descriptionOf description) (operationsIn (now (operations .entry))) (now (saved .entry)) (now (buffer .entry)) (now (answers .entry)) (now (log .entry)) ⌝ }
     ensures bytes { λ _. ⌜ Below 256 (now (buffer .entry)) × Below 256 (now (answers .entry)) ⌝ }
 {
     let d = call::describe(description);

@@ -8,15 +8,15 @@ use mathlib.Core.List.{List}
 use lib.Dec.{T, T-not, eqb, ltb, ltb→lt, lt→ltb, leb→le, le→leb, eqb-refl, nleb→lt}
 use lib.ListN.{length}
 use Rattle.fields.proofs.Laws.{and-l, and-r}
-use Rattle.calls.specs.Calls.{Request, numberOf, call, transaction, receives, transmits}
+use Rattle.calls.specs.Calls.{Request, callNumber, isCall, transaction, receives, transmits}
 use Rattle.calls.specs.Pieces.{Piece, piecesFor, piecesOf, viewOf}
-use Rattle.calls.specs.Steps.{thenAt, applyOf, is, noted, afterOf, startAt, beginAt, beginOf}
-use Rattle.calls.specs.Refusals.{some, has, hasIn, takes, accepts}
+use Rattle.calls.specs.Steps.{effectAt, applyOf, sameStep, noted, afterOf, startAt, beginAt, beginOf}
+use Rattle.calls.specs.Refusals.{hasPieces, takesGroup, groupTaken, takes, accepts}
 use Rattle.calls.specs.declared.SavedCall.{SavedCall}
 use Rattle.calls.specs.declared.Step.{Step}
 use Rattle.calls.specs.declared.Step.the-variants.{Ended, Byte, Address}
-use Rattle.calls.specs.declared.Then.{Then}
-use Rattle.calls.specs.declared.Then.the-variants.{Goes, Loads, Notes, Next, Enters, Fails, Ends}
+use Rattle.calls.specs.declared.Effect.{Effect}
+use Rattle.calls.specs.declared.Effect.the-variants.{Goes, Loads, Notes, Next, Enters, Fails, Ends}
 use Rattle.calls.specs.declared.View.{View}
 use Rattle.calls.proofs.Logic.{only, only-not, only-if, if-only, and-in, or-0, or-1, or-else, by-test, both}
 pub use Rattle.calls.proofs.Every.{is-eq}
@@ -28,26 +28,26 @@ pub record Known (q : Request) (s : SavedCall) : Type 0 where
   pub taken : T (takes q (s .step))
   pub piece : s .piece < max 1 (length (piecesOf q))
   pub byte : s .byte ≤ sizeIn q s + 1
-  pub byte-there : only (is (s .step) Byte) (T (thereIn q s))
+  pub byte-there : only (sameStep (s .step) Byte) (T (thereIn q s))
 
-pub known : (q : Request) (s : SavedCall) → T (accepts q s) → T (not (is (s .step) Ended)) → Known q s
+pub known : (q : Request) (s : SavedCall) → T (accepts q s) → T (not (sameStep (s .step) Ended)) → Known q s
 unfolding accepts
 known q s h n =
-    let r = or-else (is (s .step) Ended) _ (and-r (eqb (s .call) (numberOf (q .call))) _ h) n in
+    let r = or-else (sameStep (s .step) Ended) _ (and-r (eqb (s .call) (callNumber (q .call))) _ h) n in
     search (and-l, and-r, ltb→lt, leb→le, only-if)
 
-accept : (q : Request) (s : SavedCall) → T (eqb (s .call) (numberOf (q .call))) → Known q s → T (accepts q s)
+accept : (q : Request) (s : SavedCall) → T (eqb (s .call) (callNumber (q .call))) → Known q s → T (accepts q s)
 unfolding accepts
 accept q s c k = search (and-in, or-1, lt→ltb, le→leb, if-only) depth 9
 
 accept-ended : (q : Request) (s : SavedCall) →
-    T (eqb (s .call) (numberOf (q .call))) → T (is (s .step) Ended) → T (accepts q s)
+    T (eqb (s .call) (callNumber (q .call))) → T (sameStep (s .step) Ended) → T (accepts q s)
 unfolding accepts
 accept-ended q s c e = search (and-in, or-0)
 
-same-call : (q : Request) (s : SavedCall) → T (accepts q s) → T (eqb (s .call) (numberOf (q .call)))
+same-call : (q : Request) (s : SavedCall) → T (accepts q s) → T (eqb (s .call) (callNumber (q .call)))
 unfolding accepts
-same-call q s h = and-l (eqb (s .call) (numberOf (q .call))) _ h
+same-call q s h = and-l (eqb (s .call) (callNumber (q .call))) _ h
 
 -- what a step notes leaves the piece, and the byte number within its bounds
 pub record Noted (q : Request) (s : SavedCall) : Type 0 where
@@ -56,20 +56,20 @@ pub record Noted (q : Request) (s : SavedCall) : Type 0 where
 
 pub notes-well : (q : Request) (s : SavedCall) (a : ℕ) (t : Step) → Known q s → Noted q (noted (viewOf q s) s a t)
 notes-well q s a t k =
-    by-test (Noted q) (is t Byte) (λ _. search arith) (λ _.
-    by-test (Noted q) (is t Address) (λ _. search) (λ _. search))
+    by-test (Noted q) (sameStep t Byte) (λ _. search arith) (λ _.
+    by-test (Noted q) (sameStep t Address) (λ _. search) (λ _. search))
 
 noted-call : (v : View) (s : SavedCall) (a : ℕ) (t : Step) → noted v s a t .call ≡ s .call
-noted-call v s a t = by-test P (is t Byte) (λ _. refl) (λ _. by-test P (is t Address) (λ _. refl) (λ _. refl))
+noted-call v s a t = by-test P (sameStep t Byte) (λ _. refl) (λ _. by-test P (sameStep t Address) (λ _. refl) (λ _. refl))
   where
     P : SavedCall → Type 0
     P x = x .call ≡ s .call
 
-no-byte : (q : Request) (s : SavedCall) (u : Step) → T (plain u) → only (is u Byte) (T (thereIn q s))
+no-byte : (q : Request) (s : SavedCall) (u : Step) → T (plain u) → only (sameStep u Byte) (T (thereIn q s))
 no-byte q s u p = search (only-not, and-l)
 
 -- by cases on what follows, not on the steps
-applied : (q : Request) (s : SavedCall) (a : ℕ) (t : Step) (n : Then) →
+applied : (q : Request) (s : SavedCall) (a : ℕ) (t : Step) (n : Effect) →
     Noted q s → Fits q s t n → Known q (applyOf s a n)
 applied q s a t (Goes u) k f = search
 applied q s a t (Loads u) k f = search no-byte
@@ -80,7 +80,7 @@ applied q s a t (Enters u) k f = search (no-byte, arith)
 applied q s a t (Fails o) k f = search tt
 applied q s a t (Ends o) k f = search tt
 
-apply-call : (s : SavedCall) (a : ℕ) (n : Then) → applyOf s a n .call ≡ s .call
+apply-call : (s : SavedCall) (a : ℕ) (n : Effect) → applyOf s a n .call ≡ s .call
 apply-call s a (Goes u) = refl
 apply-call s a (Loads u) = refl
 apply-call s a (Notes o u) = refl
@@ -90,7 +90,7 @@ apply-call s a (Fails o) = refl
 apply-call s a (Ends o) = refl
 
 -- an access leaves what row 13 asks, of a call that it ends too
-pub known-after : (q : Request) (s : SavedCall) (a : ℕ) → T (not (is (s .step) Ended)) → Known q s → Known q (afterOf q s a)
+pub known-after : (q : Request) (s : SavedCall) (a : ℕ) → T (not (sameStep (s .step) Ended)) → Known q s → Known q (afterOf q s a)
 known-after q s a n k =
     let s′ : SavedCall = notedIn q s a in
     let m : Noted q s′ = notes-well q s a (s .step) k in
@@ -103,12 +103,12 @@ call-after q s a = rw (after-noted q s a, apply-call (notedIn q s a) a (thenIn q
 pub accepted-after : (q : Request) (s : SavedCall) (a : ℕ) → T (accepts q s) → T (accepts q (afterOf q s a))
 unfolding afterOf
 accepted-after q s a h =
-    both (is (s .step) Ended)
+    both (sameStep (s .step) Ended)
     (λ e. let i = is-eq (s .step) Ended e in accept-ended q (afterOf q s a) (rw i (same-call q s h)) (rw i tt))
     (λ n. accept q (afterOf q s a) (rw (call-after q s a) (same-call q s h)) (known-after q s a n (known q s h n)))
 
 -- a call with a piece moves bytes
-some-target : (q : Request) → T (some q) → T (not (transaction (q .call))) → T (receives (q .call) || transmits (q .call))
+some-target : (q : Request) → T (hasPieces q) → T (not (transaction (q .call))) → T (receives (q .call) || transmits (q .call))
 unfolding piecesFor
 some-target q h n =
     by-test P (transaction (q .call)) (λ x _. absurd (T-not (transaction (q .call)) n x)) (λ _.
@@ -120,19 +120,19 @@ some-target q h n =
 -- what is asked of the step at which a call begins
 record Begins (q : Request) (t : Step) : Type 0 where
   taken : T (takes q t)
-  no-byte : T (not (is t Byte))
+  no-byte : T (not (sameStep t Byte))
 
-begins : (q : Request) → Begins q (beginAt (q .call) (some q))
-unfolding hasIn call
+begins : (q : Request) → Begins q (beginAt (q .call) (hasPieces q))
+unfolding groupTaken isCall
 begins q = search (by-test (Begins q), at, and-in, or-0, or-1, some-target) depth 16
   where
-    at : (t : Step) → T (takes q t) → T (not (is t Byte)) → Begins q t
+    at : (t : Step) → T (takes q t) → T (not (sameStep t Byte)) → Begins q t
     at t h n = record { taken = h; no-byte = n }
 
 pub accepted-begin : (q : Request) → T (accepts q (beginOf q))
 unfolding beginOf
 accepted-begin q =
-    accept q (startAt (q .call) (beginAt (q .call) (some q))) (eqb-refl (numberOf (q .call)))
+    accept q (startAt (q .call) (beginAt (q .call) (hasPieces q))) (eqb-refl (callNumber (q .call)))
     (record {
       taken = begins q .taken;
       piece = omega arith;

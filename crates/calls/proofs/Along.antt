@@ -9,7 +9,7 @@ use lib.ListN.{set}
 use Rattle.registers.specs.declared.Register.the-variants.{Rxdr}
 use Rattle.calls.specs.Calls.{Request}
 use Rattle.calls.specs.Pieces.{viewOf}
-use Rattle.calls.specs.Steps.{accessAt, accessOf, is, afterOf, beginOf}
+use Rattle.calls.specs.Steps.{accessAt, accessOf, sameStep, afterOf, beginOf}
 use Rattle.calls.specs.Refusals.{accepts}
 use Rattle.calls.specs.Run.{Entry, readEntry, writeEntry, byteOf, Uncut, uncutTurn, uncutOf}
 use Rattle.calls.specs.declared.Access.{Access}
@@ -42,17 +42,17 @@ made (Take i) = true
 made (Write r v) = true
 
 -- a saved call that has not ended has an access, and an ended one has none
-pub has-access : (q : Request) (b : List ℕ) (s : SavedCall) → T (not (is (s .step) Ended)) → T (made (accessOf q b s))
+pub has-access : (q : Request) (b : List ℕ) (s : SavedCall) → T (not (sameStep (s .step) Ended)) → T (made (accessOf q b s))
 unfolding accessOf
 has-access q b s n =
-    both (is (s .step) Byte)
+    both (sameStep (s .step) Byte)
     (λ e. rw (is-eq (s .step) Byte e) (by-test (λ (x : Access). T (made x)) (readsIn q s) (λ _. tt) (λ _. tt)))
-    (λ m. or-else (is (s .step) Byte) _ (or-else (is (s .step) Ended) _ (other (s .step)) n) m)
+    (λ m. or-else (sameStep (s .step) Byte) _ (or-else (sameStep (s .step) Ended) _ (other (s .step)) n) m)
   where
-    other : (t : Step) → T (is t Ended || (is t Byte || made (accessAt (q .call) (q .words) (viewOf q s) b s t)))
-    other = every-step (λ t. is t Ended || (is t Byte || made (accessAt (q .call) (q .words) (viewOf q s) b s t))) tt
+    other : (t : Step) → T (sameStep t Ended || (sameStep t Byte || made (accessAt (q .call) (q .words) (viewOf q s) b s t)))
+    other = every-step (λ t. sameStep t Ended || (sameStep t Byte || made (accessAt (q .call) (q .words) (viewOf q s) b s t))) tt
 
-pub no-access : (q : Request) (b : List ℕ) (s : SavedCall) → T (is (s .step) Ended) → accessOf q b s ≡ Nothing
+pub no-access : (q : Request) (b : List ℕ) (s : SavedCall) → T (sameStep (s .step) Ended) → accessOf q b s ≡ Nothing
 unfolding accessOf
 no-access q b s e = ap (accessAt (q .call) (q .words) (viewOf q s) b s) (is-eq (s .step) Ended e)
 

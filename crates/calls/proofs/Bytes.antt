@@ -12,12 +12,12 @@ use Rattle.fields.proofs.Laws.{and-l, and-r}
 use Rattle.registers.specs.declared.Register.{Register}
 use Rattle.registers.specs.declared.Register.the-variants.{Cr1, Oar1, Oar2}
 use Rattle.calls.specs.Bytes.{placesFrom, bytesAt, EndedAs}
-use Rattle.calls.specs.Calls.{Request, call, kinds, transaction, receives, transmits}
+use Rattle.calls.specs.Calls.{Request, isCall, isKind, transaction, receives, transmits}
 use Rattle.calls.specs.Outcomes.{isDone}
 use Rattle.calls.specs.Pieces.{piecesOf, viewOf}
-use Rattle.calls.specs.Refusals.{some, takes, accepts}
+use Rattle.calls.specs.Refusals.{hasPieces, takes, accepts}
 use Rattle.calls.specs.Run.{Entry, readEntry, writeEntry, byteOf, Uncut, uncutOf, isNackClear, outOf, putOutFrom, putOut, inOf, takenIn}
-use Rattle.calls.specs.Steps.{failing, byteOut, accessAt, accessOf, applyOf, counted, noted, beginAt, beginOf, is}
+use Rattle.calls.specs.Steps.{failing, byteOut, accessAt, accessOf, applyOf, counted, noted, beginAt, beginOf, sameStep}
 use Rattle.calls.specs.Words.{registerOf, alterOf}
 use Rattle.calls.specs.declared.Access.{Access}
 use Rattle.calls.specs.declared.Access.the-variants.{Read, Take, Write, Nothing}
@@ -27,8 +27,8 @@ use Rattle.calls.specs.declared.Outcome.the-variants.{Done}
 use Rattle.calls.specs.declared.SavedCall.{SavedCall}
 use Rattle.calls.specs.declared.Step.{Step}
 use Rattle.calls.specs.declared.Step.the-variants.{Ended, Byte, StopClear, NackClear, FlushTxis, FlushByte, Address, ModifyRead, ModifyWrite}
-use Rattle.calls.specs.declared.Then.{Then}
-use Rattle.calls.specs.declared.Then.the-variants.{Goes, Loads, Notes, Next, Enters, Fails, Ends}
+use Rattle.calls.specs.declared.Effect.{Effect}
+use Rattle.calls.specs.declared.Effect.the-variants.{Goes, Loads, Notes, Next, Enters, Fails, Ends}
 use Rattle.calls.proofs.Logic.{only, only-if, and-in, or-1, or-else, nor-0, by-test, both, same}
 use Rattle.calls.proofs.Every.{implied, is-eq, every-step}
 use Rattle.calls.proofs.Fits.{over, flushOk, inEvent, plain, Fits, stepOf, AllRead, all-read, move-some, fits}
@@ -87,8 +87,8 @@ after q x y z o g p h m n = record {
 -- of the other steps NACK_CLEAR alone writes ICR 0x10 and FLUSH_BYTE alone TXDR, and none reads RXDR
 abbrev ordinary : Step → Entry → Bool
 ordinary t e =
-    Bool·beq (isNackClear e) (is t NackClear)
-    && (Bool·beq (eqb (e .code) 0x128) (is t FlushByte) && not (eqb (e .code) 0x24))
+    Bool·beq (isNackClear e) (sameStep t NackClear)
+    && (Bool·beq (eqb (e .code) 0x128) (sameStep t FlushByte) && not (eqb (e .code) 0x24))
 
 -- one computed test for every step; only LISTEN's two do not compute, as their register depends on the request
 module _ (q : Request) (b : List ℕ) (s : SavedCall) (a : ℕ) where
@@ -96,14 +96,14 @@ module _ (q : Request) (b : List ℕ) (s : SavedCall) (a : ℕ) where
   by-listen P c o p =
       by-test P (eqb (q .words .listen) 0) (λ _. c) (λ _. by-test P (eqb (q .words .listen) 1) (λ _. o) (λ _. p))
 
-  entry-ordinary : (t : Step) → T (not (is t Byte)) → T (ordinary t (entryOf (accessAt (q .call) (q .words) (viewOf q s) b s t) a))
+  entry-ordinary : (t : Step) → T (not (sameStep t Byte)) → T (ordinary t (entryOf (accessAt (q .call) (q .words) (viewOf q s) b s t) a))
   unfolding putOf withBits
   entry-ordinary t n =
-      both (is t r)
+      both (sameStep t r)
       (λ e. rw (is-eq t r e) (by-listen (λ x. T (ordinary r (readEntry x a))) tt tt tt)) (λ m.
-      both (is t w)
+      both (sameStep t w)
       (λ e. rw (is-eq t w e) (by-listen (λ x. T (ordinary w (writeEntry x (alterOf (q .call) (q .words) (viewOf q s) (s .word) Listen)))) tt tt tt))
-      (λ k. or-else (is t w) _ (or-else (is t r) _ (or-else (is t Byte) _ (every-step computes tt t) n) m) k))
+      (λ k. or-else (sameStep t w) _ (or-else (sameStep t r) _ (or-else (sameStep t Byte) _ (every-step computes tt t) n) m) k))
     where
       r : Step
       r = ModifyRead Listen
@@ -112,11 +112,11 @@ module _ (q : Request) (b : List ℕ) (s : SavedCall) (a : ℕ) where
       w = ModifyWrite Listen
 
       computes : Step → Bool
-      computes t = is t Byte || (is t r || (is t w || ordinary t (entryOf (accessAt (q .call) (q .words) (viewOf q s) b s t) a)))
+      computes t = sameStep t Byte || (sameStep t r || (sameStep t w || ordinary t (entryOf (accessAt (q .call) (q .words) (viewOf q s) b s t) a)))
 
 -- so nothing is put out, taken in or stored (FLUSH_BYTE comes two entries after NACK_CLEAR)
 pub record Quiet (t : Step) (two : Bool) (x : Access) (a : ℕ) (b : List ℕ) : Type 0 where
-  pub mark : isNackClear (entryOf x a) ≡ is t NackClear
+  pub mark : isNackClear (entryOf x a) ≡ sameStep t NackClear
   pub out : outOf two (entryOf x a) ≡ []
   pub got : inOf (entryOf x a) ≡ []
   pub store : storeOf x a b ≡ b
@@ -124,10 +124,10 @@ pub record Quiet (t : Step) (two : Bool) (x : Access) (a : ℕ) (b : List ℕ) :
 quiet-entry : (t : Step) (two one : Bool) (x : Access) (a : ℕ) (b : List ℕ) →
     T (ordinary t (entryOf x a)) → T (flushOk t two one) → Quiet t two x a b
 quiet-entry t two one x a b o f = record {
-  mark = same (isNackClear e) (is t NackClear) (search and-l);
+  mark = same (isNackClear e) (sameStep t NackClear) (search and-l);
   out =
-      rw (same (eqb (e .code) 0x128) (is t FlushByte) (search (and-l, and-r)))
-      (flushed (is t FlushByte) two (search (and-l, and-r)));
+      rw (same (eqb (e .code) 0x128) (sameStep t FlushByte) (search (and-l, and-r)))
+      (flushed (sameStep t FlushByte) two (search (and-l, and-r)));
   got = rw (is-false (eqb (e .code) 0x24) (search (and-l, and-r)));
   store = stored x (search (and-l, and-r));
 }
@@ -147,7 +147,7 @@ quiet-entry t two one x a b o f = record {
     stored (Write r v) h = refl
 
 pub quiet : (q : Request) (b : List ℕ) (s : SavedCall) (a : ℕ) (t : Step) (two one : Bool) →
-    T (not (is t Byte)) → T (flushOk t two one) → Quiet t two (accessAt (q .call) (q .words) (viewOf q s) b s t) a b
+    T (not (sameStep t Byte)) → T (flushOk t two one) → Quiet t two (accessAt (q .call) (q .words) (viewOf q s) b s t) a b
 quiet q b s a t two one n f = quiet-entry t two one (accessAt (q .call) (q .words) (viewOf q s) b s t) a b (entry-ordinary q b s a t n) f
 
 -- ---- BYTE moves the byte that is there
@@ -165,19 +165,19 @@ all-out w q s j l h =
 -- a call fills its buffer, or puts it out, or is a transaction
 module _ (q : Request) where
   pub not-transmits : T (receives (q .call)) → T (not (transmits (q .call)))
-  unfolding call kinds
+  unfolding isCall isKind
   not-transmits = implied q (λ r. receives (r .call)) (λ r. not (transmits (r .call))) tt
 
   pub not-receives : T (transmits (q .call)) → T (not (receives (q .call)))
-  unfolding call kinds
+  unfolding isCall isKind
   not-receives = implied q (λ r. transmits (r .call)) (λ r. not (receives (r .call))) tt
 
   pub no-filling : T (transaction (q .call)) → T (not (transmits (q .call)))
-  unfolding call kinds
+  unfolding isCall isKind
   no-filling = implied q (λ r. transaction (r .call)) (λ r. not (transmits (r .call))) tt
 
   pub no-transaction : T (receives (q .call) || transmits (q .call)) → T (not (transaction (q .call)))
-  unfolding call kinds
+  unfolding isCall isKind
   no-transaction = implied q (λ r. receives (r .call) || transmits (r .call)) (λ r. not (transaction (r .call))) tt
 
 module _ (q : Request) (s : SavedCall) (b : List ℕ) (a : ℕ)
@@ -255,37 +255,37 @@ Fresh t s = T (inEvent t) → (s .piece ≡ 0) × (s .byte ≡ 0)
 
 -- a transaction clears STOPF past its last byte, or with an error on its way
 abbrev Stopping : Request → Step → SavedCall → Type 0
-Stopping q t s = T (is t StopClear) → T (transaction (q .call)) → T (over q s)
+Stopping q t s = T (sameStep t StopClear) → T (transaction (q .call)) → T (over q s)
 
 -- a transaction that is done has nothing ahead
 abbrev Finished : Request → SavedCall → Type 0
 Finished q s =
-    T (is (s .step) Ended) → T (isDone (s .outcome)) → T (transaction (q .call)) → (w : Bool) → aheadOf w q s ≡ []
+    T (sameStep (s .step) Ended) → T (isDone (s .outcome)) → T (transaction (q .call)) → (w : Bool) → aheadOf w q s ≡ []
 
 record Onward (q : Request) (t : Step) (s s′ : SavedCall) : Type 0 where
   ahead : (w : Bool) → aheadOf w q s′ ≡ aheadOf w q s
-  flush : T (flushOk (s′ .step) (is t FlushTxis) (is t NackClear))
+  flush : T (flushOk (s′ .step) (sameStep t FlushTxis) (sameStep t NackClear))
   fresh : Fresh (s′ .step) s′
   stopping : Stopping q (s′ .step) s′
   finished : Finished q s′
 
-pub not-end : (u : Step) → T (plain u) → T (is u Ended) → ⊥
-not-end u p = T-not (is u Ended) (search (and-l, and-r))
+pub not-end : (u : Step) → T (plain u) → T (sameStep u Ended) → ⊥
+not-end u p = T-not (sameStep u Ended) (search (and-l, and-r))
 
 module _ (q : Request) (s : SavedCall) (a : ℕ) (t : Step) (fresh : Fresh t s) (stopping : Stopping q t s) where
-  flushed-by : (n : Then) → Fits q s t n → T (flushOk (stepOf n) (is t FlushTxis) (is t NackClear))
-  flushed-by n f = and-l (flushOk (stepOf n) (is t FlushTxis) (is t NackClear)) _ (f .edge)
+  flushed-by : (n : Effect) → Fits q s t n → T (flushOk (stepOf n) (sameStep t FlushTxis) (sameStep t NackClear))
+  flushed-by n f = and-l (flushOk (stepOf n) (sameStep t FlushTxis) (sameStep t NackClear)) _ (f .edge)
 
-  fresh-by : (n : Then) → Fits q s t n → T (inEvent (stepOf n)) → (s .piece ≡ 0) × (s .byte ≡ 0)
+  fresh-by : (n : Effect) → Fits q s t n → T (inEvent (stepOf n)) → (s .piece ≡ 0) × (s .byte ≡ 0)
   fresh-by n f e =
       let u : Step = stepOf n in
-      let h : T (not (inEvent u) || inEvent t) = and-r (flushOk u (is t FlushTxis) (is t NackClear)) _ (f .edge) in
+      let h : T (not (inEvent u) || inEvent t) = and-r (flushOk u (sameStep t FlushTxis) (sameStep t NackClear)) _ (f .edge) in
       fresh (only-use (inEvent u) (T (inEvent t)) e (only-if (inEvent u) (inEvent t) h))
 
   -- it ends as done only past the last byte of its last piece
   ends : (o : Outcome) → Fits q s t (Ends o) → Finished q (applyOf s a (Ends o))
   ends o f _ d x w =
-      let y : T (is t StopClear) × (o ≡ s .outcome) =
+      let y : T (sameStep t StopClear) × (o ≡ s .outcome) =
       only-use (isDone o && transaction (q .call)) _ (and-in (isDone o) (transaction (q .call)) d x) (f .why) in
       let r : T (lastIn q s && not (thereIn q s)) =
       or-else (failing (q .call) s) _ (stopping (y .0) x) (going (transaction (q .call)) (isDone (s .outcome)) (rw (y .1) at d)) in
@@ -296,24 +296,24 @@ module _ (q : Request) (s : SavedCall) (a : ℕ) (t : Step) (fresh : Fresh t s) 
       going true false h = h
       going false e h = tt
 
-  plainly : (s′ : SavedCall) → T (plain (s′ .step)) → T (flushOk (s′ .step) (is t FlushTxis) (is t NackClear)) →
+  plainly : (s′ : SavedCall) → T (plain (s′ .step)) → T (flushOk (s′ .step) (sameStep t FlushTxis) (sameStep t NackClear)) →
       ((w : Bool) → aheadOf w q s′ ≡ aheadOf w q s) → Fresh (s′ .step) s′ → Onward q t s s′
   plainly s′ p f h g = record {
     ahead = h;
     flush = f;
     fresh = g;
-    stopping = λ e _. absurd (T-not (is (s′ .step) StopClear) (search (and-l, and-r)) e);
+    stopping = λ e _. absurd (T-not (sameStep (s′ .step) StopClear) (search (and-l, and-r)) e);
     finished = λ e _ _. absurd (not-end (s′ .step) p e);
   }
 
-  onward : (n : Then) → Fits q s t n → Onward q t s (applyOf s a n)
+  onward : (n : Effect) → Fits q s t n → Onward q t s (applyOf s a n)
   onward (Goes u) f = record {
     ahead = λ w. refl;
     flush = flushed-by (Goes u) f;
     fresh = fresh-by (Goes u) f;
     stopping = λ e x.
-        only-use (is u StopClear && transaction (q .call)) _ (and-in (is u StopClear) (transaction (q .call)) e x) (f .why .1);
-    finished = λ e _ _. absurd (T-not (is u Ended) (f .why .2) e);
+        only-use (sameStep u StopClear && transaction (q .call)) _ (and-in (sameStep u StopClear) (transaction (q .call)) e x) (f .why .1);
+    finished = λ e _ _. absurd (T-not (sameStep u Ended) (f .why .2) e);
   }
   onward (Loads u) f = plainly _ (f .why) (flushed-by (Loads u) f) (λ w. refl) (fresh-by (Loads u) f)
   onward (Notes o u) f = plainly _ (f .why) (flushed-by (Notes o u) f) (λ w. refl) (fresh-by (Notes o u) f)
@@ -335,20 +335,20 @@ module _ (q : Request) (s : SavedCall) (a : ℕ) (t : Step) (fresh : Fresh t s) 
 
 -- what a step notes first, but BYTE, is not of bytes
 module _ (q : Request) (s : SavedCall) (a : ℕ) (t : Step) where
-  pub by-noted : (P : ℕ → ℕ → Type 0) → T (not (is t Byte)) → P (s .piece) (s .byte) →
+  pub by-noted : (P : ℕ → ℕ → Type 0) → T (not (sameStep t Byte)) → P (s .piece) (s .byte) →
       P (noted (viewOf q s) s a t .piece) (noted (viewOf q s) s a t .byte)
   by-noted P n h =
-      by-test Q (is t Byte) (λ y. absurd (T-not (is t Byte) n y)) (λ _. by-test Q (is t Address) (λ _. h) (λ _. h))
+      by-test Q (sameStep t Byte) (λ y. absurd (T-not (sameStep t Byte) n y)) (λ _. by-test Q (sameStep t Address) (λ _. h) (λ _. h))
     where
       Q : SavedCall → Type 0
       Q s′ = P (s′ .piece) (s′ .byte)
 
-  noted-ahead : T (not (is t Byte)) → (w : Bool) → aheadOf w q (noted (viewOf q s) s a t) ≡ aheadOf w q s
+  noted-ahead : T (not (sameStep t Byte)) → (w : Bool) → aheadOf w q (noted (viewOf q s) s a t) ≡ aheadOf w q s
   noted-ahead n w = by-noted (λ i j. aheadFrom w 0 (piecesOf q) i j ≡ aheadOf w q s) n refl
 
   pub noted-fresh : Fresh t s → Fresh t (noted (viewOf q s) s a t)
   noted-fresh h e =
-      both (is t Byte) (λ y. absurd (rw (is-eq t Byte y) at e)) (λ n. by-noted (λ i j. (i ≡ 0) × (j ≡ 0)) n (h e))
+      both (sameStep t Byte) (λ y. absurd (rw (is-eq t Byte y) at e)) (λ n. by-noted (λ i j. (i ≡ 0) × (j ≡ 0)) n (h e))
 
   noted-stopping : Stopping q t s → Stopping q t (noted (viewOf q s) s a t)
   noted-stopping h e x = let o : T (over q s) = h e x in rw (is-eq t StopClear e) o
@@ -384,22 +384,22 @@ not-two false one h = refl
 
 -- what is known of BYTE
 abbrev pub AtByte : Request → SavedCall → Type 0
-AtByte q s = T (is (s .step) Byte) → T (thereIn q s) × (s .piece < length (piecesOf q))
+AtByte q s = T (sameStep (s .step) Byte) → T (thereIn q s) × (s .piece < length (piecesOf q))
 
 pub at-byte : (q : Request) (s : SavedCall) → Known q s → AtByte q s
 at-byte q s k y =
     let m = rw (is-eq (s .step) Byte y) at (k .taken) in
     let z : 0 < length (piecesOf q) = ltb→lt 0 (length (piecesOf q)) (move-some q m) in
-    (only-use (is (s .step) Byte) (T (thereIn q s)) y (k .byte-there), omega (arith, k .piece))
+    (only-use (sameStep (s .step) Byte) (T (thereIn q s)) y (k .byte-there), omega (arith, k .piece))
 
 module _ (q : Request) (s : SavedCall) (b : List ℕ) (a : ℕ) (two one : Bool)
     (flush : T (flushOk (s .step) two one)) where
   abbrev x : Access
   x = accessAt (q .call) (q .words) (viewOf q s) b s (s .step)
 
-  entry-mark : isNackClear (entryOf x a) ≡ is (s .step) NackClear
+  entry-mark : isNackClear (entryOf x a) ≡ sameStep (s .step) NackClear
   entry-mark =
-      both (is (s .step) Byte)
+      both (sameStep (s .step) Byte)
       (λ y. rw (is-eq (s .step) Byte y)
       (by-test (λ x. isNackClear (entryOf x a) ≡ false) (readsIn q s) (λ _. refl) (λ _. refl)))
       (λ n. quiet q b s a (s .step) two one n flush .mark)
@@ -408,7 +408,7 @@ module _ (q : Request) (s : SavedCall) (b : List ℕ) (a : ℕ) (two one : Bool)
       Moves q (frontOf q s b) (frontOf q (noted (viewOf q s) s a (s .step)) (storeOf x a b))
       (outOf two (entryOf x a)) (inOf (entryOf x a))
   entry-moves h =
-      both (is (s .step) Byte)
+      both (sameStep (s .step) Byte)
       (λ y.
       let k = h y in
       let e = is-eq (s .step) Byte y in
@@ -419,23 +419,23 @@ module _ (q : Request) (s : SavedCall) (b : List ℕ) (a : ℕ) (two one : Bool)
       (still q (frontOf q s b)))
 
   -- the marks move on by one entry
-  marks-after : (u : Step) → T (flushOk u (is (s .step) FlushTxis) (is (s .step) NackClear)) →
+  marks-after : (u : Step) → T (flushOk u (sameStep (s .step) FlushTxis) (sameStep (s .step) NackClear)) →
       T (flushOk u one (isNackClear (entryOf x a)))
   marks-after u f =
-      let e = same one (is (s .step) FlushTxis) (and-l (Bool·beq one (is (s .step) FlushTxis)) _ flush) in
+      let e = same one (sameStep (s .step) FlushTxis) (and-l (Bool·beq one (sameStep (s .step) FlushTxis)) _ flush) in
       rw (e, entry-mark) f
 
 -- a step that is taken, with what the table says of it
 pub record Taken (q : Request) (s : SavedCall) (a : ℕ) : Type 0 where
   pub known : Known q s
-  pub live : T (not (is (s .step) Ended))
+  pub live : T (not (sameStep (s .step) Ended))
   pub fits : Fits q (notedIn q s a) (s .step) (thenIn q s a)
 
 pub step-taken : (q : Request) (b : List ℕ) (s : SavedCall) (a : ℕ) →
     T (accepts q s) → T (made (accessOf q b s)) → Taken q s a
 unfolding accessOf
 step-taken q b s a h m =
-    let n : T (not (is (s .step) Ended)) = not-T (is (s .step) Ended) (λ e. rw (is-eq (s .step) Ended e) at m) in
+    let n : T (not (sameStep (s .step) Ended)) = not-T (sameStep (s .step) Ended) (λ e. rw (is-eq (s .step) Ended e) at m) in
     let k : Known q s = known q s h n in
     record { known = k; live = n; fits = fits q _ a (s .step) (notes-well q s a (s .step) k .piece) n (k .taken) }
 
@@ -461,9 +461,9 @@ keeps q x z s b a v h =
 
 -- a call begins at no clear of a flag, and has ended only if it has no piece
 abbrev starting : Request → Step → Bool
-starting q t = flushOk t false false && (not (is t StopClear) && (not (is t Ended) || not (some q)))
+starting q t = flushOk t false false && (not (sameStep t StopClear) && (not (sameStep t Ended) || not (hasPieces q)))
 
-start-at : (q : Request) → T (starting q (beginAt (q .call) (some q)))
+start-at : (q : Request) → T (starting q (beginAt (q .call) (hasPieces q)))
 start-at q = search (by-test (λ t. T (starting q t)), tt) depth 16
 
 abbrev pub whole : Request → List ℕ → Front
@@ -476,15 +476,15 @@ whole q b = record {
 pub begins : (q : Request) (b : List ℕ) → Inv q (whole q b) unseen (beginOf q) b
 unfolding beginOf
 begins q b =
-    let t : Step = beginAt (q .call) (some q) in
+    let t : Step = beginAt (q .call) (hasPieces q) in
     let r : T (starting q t) = start-at q in
     record {
       accepted = accepted-begin q;
       flush = and-l (flushOk t false false) _ r;
       fresh = λ _. (refl, refl);
-      stopping = λ e _. absurd (T-not (is t StopClear) (search (and-l, and-r)) e);
+      stopping = λ e _. absurd (T-not (sameStep t StopClear) (search (and-l, and-r)) e);
       finished = λ e _ _ w. ahead-none w 0 (piecesOf q) 0 0 (nltb→le 0 (length (piecesOf q))
-          (only-use (is t Ended) (T (not (some q))) e (only-if (is t Ended) (not (some q)) (search and-r))));
+          (only-use (sameStep t Ended) (T (not (hasPieces q))) e (only-if (sameStep t Ended) (not (hasPieces q)) (search and-r))));
       moved = rw (ahead-all false 0 (piecesOf q), ahead-all true 0 (piecesOf q)) (still q (whole q b));
     }
 

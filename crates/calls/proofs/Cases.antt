@@ -10,11 +10,11 @@ use Rattle.timing.proofs.Cases.{Question, Answer, Case, ask, cases}
 use Rattle.timing.specs.Bands.{timingOf, bandOf, inBandOf, equalAt, doubleAt}
 use Rattle.timing.specs.Timingr.{unpackOf}
 use Rattle.calls.specs.Advances.{answersIn}
-use Rattle.calls.specs.Calls.{call, kinds, manual, configOf, withMode, withSecondary, withMask}
+use Rattle.calls.specs.Calls.{isCall, isKind, manual, configOf, withMode, withSecondary, withMask}
 use Rattle.calls.specs.Pieces.{piecesFor}
-use Rattle.calls.specs.Refusals.{lookupOf, verdictOf, checkOf, hasIn, accepts}
+use Rattle.calls.specs.Refusals.{lookupOf, verdictOf, checkOf, groupTaken, accepts}
 use Rattle.calls.specs.Run.{Entry, Run, begunOf, advanceFrom, runOf}
-use Rattle.calls.specs.Steps.{accessOf, afterOf, beginOf}
+use Rattle.calls.specs.Steps.{accessOf, afterOf, beginOf, freshAt, savedAt}
 use Rattle.calls.specs.Words.{cr2Of, timingrOf, oar1Of, oar2Of, alterOf}
 use Rattle.calls.specs.declared.AddressMode.{AddressMode}
 use Rattle.calls.specs.declared.AddressMode.the-variants.{AddressMode7bit, AddressMode10bit}
@@ -202,7 +202,7 @@ transfers =
     (0x5A ∷ [])
     -- after 254 bytes of the first block, the end of a run of 523 accesses: NBYTES is set anew, ADDRCF is not cleared again, a zero follows
     -- the last byte
-    ∷ resumed (record { call = 26; piece = 0; byte = 254; word = 0; accesses = 511; outcome = Done 0; step = Wait })
+    ∷ resumed (savedAt (freshAt 26 Wait) Wait 0 254 0 (Done 0) 511)
     (plain 26 0) [] (replicate 256 0x5A) (Done 256)
     (r 0x18 2 ∷ w 0x28 0x5A ∷ r 0x04 0x00FF0000 ∷ w 0x04 0x00010000 ∷ r 0x18 2 ∷ w 0x28 0x5A ∷ r 0x18 2 ∷ w 0x28 0
     ∷ r 0x18 0x10 ∷ w 0x1C 0x10 ∷ r 0x18 1 ∷ r 0x18 1 ∷ [])
@@ -243,5 +243,5 @@ abbrev table : List Row
 table = map fromTiming cases ++ transactions ++ events ++ transfers ++ controls
 
 proved-cases : map (λ (r : Row). answerTo (r .asked)) table ≡ map (λ (r : Row). r .answered) table
-unfolding timingOf bandOf inBandOf equalAt doubleAt getOf bitsAt putOf withBits unpackOf call kinds manual piecesFor lookupOf verdictOf checkOf hasIn accepts begunOf advanceFrom runOf cr2Of timingrOf oar1Of oar2Of alterOf accessOf afterOf beginOf
+unfolding timingOf bandOf inBandOf equalAt doubleAt getOf bitsAt putOf withBits unpackOf isCall isKind manual piecesFor lookupOf verdictOf checkOf groupTaken accepts begunOf advanceFrom runOf cr2Of timingrOf oar1Of oar2Of alterOf accessOf afterOf beginOf
 proved-cases = refl

@@ -8,20 +8,20 @@ use lib.ListN.{length, set}
 use Rattle.calls.specs.Calls.{Request}
 use Rattle.calls.specs.Pieces.{viewOf}
 use Rattle.calls.specs.Run.{byteOf, uncutTurn, uncutOf}
-use Rattle.calls.specs.Steps.{accessOf, afterOf, applyOf, beginOf, is, more, noted, thenAt}
+use Rattle.calls.specs.Steps.{accessOf, afterOf, applyOf, beginOf, sameStep, oneMore, noted, effectAt}
 use Rattle.calls.specs.declared.Access.{Access}
 use Rattle.calls.specs.declared.Access.the-variants.{Read, Take, Write, Nothing}
 use Rattle.calls.specs.declared.SavedCall.{SavedCall}
 use Rattle.calls.specs.declared.Step.the-variants.{Byte, Address}
-use Rattle.calls.specs.declared.Then.{Then}
-use Rattle.calls.specs.declared.Then.the-variants.{Goes, Loads, Notes, Next, Enters, Fails, Ends}
+use Rattle.calls.specs.declared.Effect.{Effect}
+use Rattle.calls.specs.declared.Effect.the-variants.{Goes, Loads, Notes, Next, Enters, Fails, Ends}
 use Rattle.calls.specs.declared.View.{View}
 
 either : (c : Bool) (x y : SavedCall) (n : ℕ) → x .accesses ≡ n → y .accesses ≡ n → cond c x y .accesses ≡ n
 either true x y n e f = e
 either false x y n e f = f
 
-applied : (s : SavedCall) (a : ℕ) (n : Then) → applyOf s a n .accesses ≡ more (s .accesses)
+applied : (s : SavedCall) (a : ℕ) (n : Effect) → applyOf s a n .accesses ≡ oneMore (s .accesses)
 applied s a (Goes t) = refl
 applied s a (Loads t) = refl
 applied s a (Notes o t) = refl
@@ -30,13 +30,13 @@ applied s a (Enters t) = refl
 applied s a (Fails o) = refl
 applied s a (Ends o) = refl
 
-after-counts : (q : Request) (s : SavedCall) (a : ℕ) → afterOf q s a .accesses ≡ more (s .accesses)
+after-counts : (q : Request) (s : SavedCall) (a : ℕ) → afterOf q s a .accesses ≡ oneMore (s .accesses)
 unfolding afterOf
 after-counts q s a =
     let v : View = viewOf q s in
     let s′ : SavedCall = noted v s a (s .step) in
-    let e : s′ .accesses ≡ s .accesses = either (is (s .step) Byte) _ _ _ refl (either (is (s .step) Address) _ _ _ refl refl) in
-    applied s′ a (thenAt (q .call) (q .words) v s′ a (s .step)) ∙ rw e
+    let e : s′ .accesses ≡ s .accesses = either (sameStep (s .step) Byte) _ _ _ refl (either (sameStep (s .step) Address) _ _ _ refl refl) in
+    applied s′ a (effectAt (q .call) (q .words) v s′ a (s .step)) ∙ rw e
 
 abbrev most : ℕ
 most = 4294967295

@@ -9,12 +9,12 @@ use lib.Dec.{T, T-not, not-T, ltb, ltb→lt, nltb→le, nleb→lt, leb→le}
 use lib.ListN.{length, length-append}
 use Rattle.registers.specs.declared.Register.the-variants.{Txdr}
 use Rattle.calls.specs.Bytes.{writeCount, EndedAs, Count}
-use Rattle.calls.specs.Calls.{Request, call, kinds, manual, transaction, receives, transmits}
+use Rattle.calls.specs.Calls.{Request, isCall, isKind, manual, transaction, receives, transmits}
 use Rattle.calls.specs.Outcomes.{isDone}
 use Rattle.calls.specs.Pieces.{blocksOf, piecesOf, pieceAt, viewOf}
-use Rattle.calls.specs.Refusals.{listed, takes, has, hasIn, timing, own, second, enable, peOn, listen, reloadOff}
+use Rattle.calls.specs.Refusals.{listed, takes, takesGroup, groupTaken, timing, own, second, enable, peOn, listen, reloadOff}
 use Rattle.calls.specs.Run.{Entry, byteOf, outOf, inOf, Uncut, uncutOf, putOut, takenIn}
-use Rattle.calls.specs.Steps.{countOf, awaited, waitAt, byteMoved, thenAt, applyOf, counted, noted, accessAt, accessOf, afterOf, beginOf, is}
+use Rattle.calls.specs.Steps.{countOf, awaited, waitAt, byteMoved, effectAt, applyOf, counted, noted, accessAt, accessOf, afterOf, beginOf, sameStep}
 use Rattle.calls.specs.declared.Access.the-variants.{Take, Write}
 use Rattle.calls.specs.declared.Flag.{Flag}
 use Rattle.calls.specs.declared.Flag.the-variants.{Rxne, Txis, Tc, Tcr, Stopf, Never}
@@ -23,8 +23,9 @@ use Rattle.calls.specs.declared.Outcome.the-variants.{Done}
 use Rattle.calls.specs.declared.SavedCall.{SavedCall}
 use Rattle.calls.specs.declared.Step.{Step}
 use Rattle.calls.specs.declared.Step.the-variants.{Ended, Begin, StartStatus, StartControl, Wait, Byte, StopClear, BusClear, ArbitrationClear, NackClear, FlushTxis, FlushByte, FlushTxe, Flush, Timing, Own, Secondary, Enable, Delay1, Delay2, Disabled, Event, EventFlush, EventClear, Address, TransferClear, ModifyRead, ModifyWrite}
-use Rattle.calls.specs.declared.Then.{Then}
-use Rattle.calls.specs.declared.Then.the-variants.{Goes, Loads, Notes, Next, Enters, Fails, Ends}
+use Rattle.calls.specs.declared.Effect.{Effect}
+use Rattle.calls.specs.declared.Effect.the-variants.{Goes, Loads, Notes, Next, Enters, Fails, Ends}
+use Rattle.calls.specs.declared.Call.the-variants.{WaitForEvent, WaitForStop}
 use Rattle.calls.proofs.Logic.{only, not-and, not-and-1, nor-1, or-0, or-1, or-else, by-test, both}
 use Rattle.calls.proofs.Every.{all, asks, implied, is-eq}
 use Rattle.calls.proofs.Fits.{inEvent, flushOk, Fits, AllRead, all-read}
@@ -38,7 +39,7 @@ target q = receives (q .call) || transmits (q .call)
 
 -- ---- The table of steps once more: a transfer that ends as done says the count of the bytes moved, in an event 0
 
-abbrev CountWhy : Request → SavedCall → Step → Then → Type 0
+abbrev CountWhy : Request → SavedCall → Step → Effect → Type 0
 CountWhy q s t (Goes u) = Unit {0}
 CountWhy q s t (Loads u) = Unit {0}
 CountWhy q s t (Notes o u) = Unit {0}
@@ -47,7 +48,7 @@ CountWhy q s t (Enters u) = Unit {0}
 CountWhy q s t (Fails o) = Unit {0}
 CountWhy q s t (Ends o) = only (isDone o) (o ≡ Done (cond (inEvent t) 0 (countOf (q .call) s)))
 
-record Counts (q : Request) (s : SavedCall) (t : Step) (n : Then) : Type 0 where
+record Counts (q : Request) (s : SavedCall) (t : Step) (n : Effect) : Type 0 where
   why : CountWhy q s t n
 
 -- what no transfer asks for or takes
@@ -56,20 +57,20 @@ absent : (q : Request) (f : Request → Bool) → T (all (λ c. not (target (ask
 absent q f t x h = T-not (target q) (implied q f (λ r. not (target r)) t h) x
 
 module _ {q : Request} {s : SavedCall} {t : Step} where
-  test : (c : Bool) {x y : Then} → (T c → Counts q s t x) → (T (not c) → Counts q s t y) → Counts q s t (cond c x y)
+  test : (c : Bool) {x y : Effect} → (T c → Counts q s t x) → (T (not c) → Counts q s t y) → Counts q s t (cond c x y)
   test = by-test (Counts q s t)
 
-  not-7 : (n : Then) → T (target q) → T (transaction (q .call)) → Counts q s t n
-  unfolding call kinds
+  not-7 : (n : Effect) → T (target q) → T (transaction (q .call)) → Counts q s t n
+  unfolding isCall isKind
   not-7 n x h = absurd (absent q (λ r. transaction (r .call)) tt x h)
 
-  not-8 : (n : Then) → T (target q) → T (kinds (q .call) 8) → Counts q s t n
-  unfolding call kinds
-  not-8 n x h = absurd (absent q (λ r. kinds (r .call) 8) tt x h)
+  not-8 : (n : Effect) → T (target q) → T (isKind (q .call) WaitForEvent) → Counts q s t n
+  unfolding isCall isKind
+  not-8 n x h = absurd (absent q (λ r. isKind (r .call) WaitForEvent) tt x h)
 
-  not-13 : (n : Then) → T (target q) → T (kinds (q .call) 13) → Counts q s t n
-  unfolding call kinds
-  not-13 n x h = absurd (absent q (λ r. kinds (r .call) 13) tt x h)
+  not-13 : (n : Effect) → T (target q) → T (isKind (q .call) WaitForStop) → Counts q s t n
+  unfolding isCall isKind
+  not-13 n x h = absurd (absent q (λ r. isKind (r .call) WaitForStop) tt x h)
 
 ruleset table = (test, not-7, not-8, not-13, tt)
 
@@ -82,8 +83,8 @@ module _ (q : Request) (s : SavedCall) (a : ℕ) (x : T (target q)) where
   waits Stopf = search table depth 16
   waits Never = search table depth 16
 
-  counts : (t : Step) → T (not (is t Ended)) → T (takes q t) → Counts q s t (thenAt (q .call) (q .words) (viewOf q s) s a t)
-  unfolding hasIn call kinds
+  counts : (t : Step) → T (not (sameStep t Ended)) → T (takes q t) → Counts q s t (effectAt (q .call) (q .words) (viewOf q s) s a t)
+  unfolding groupTaken isCall isKind
   counts Ended h k = absurd h
   counts Begin h k = search table depth 16
   counts StartStatus h k = search table depth 16
@@ -98,10 +99,10 @@ module _ (q : Request) (s : SavedCall) (a : ℕ) (x : T (target q)) where
   counts FlushByte h k = search table depth 16
   counts FlushTxe h k = search table depth 16
   counts Flush h k = search table depth 16
-  counts Timing h k = absurd (absent q (λ r. has r timing) tt x k)
-  counts Own h k = absurd (absent q (λ r. has r own) tt x k)
-  counts Secondary h k = absurd (absent q (λ r. has r second) tt x k)
-  counts Enable h k = absurd (absent q (λ r. has r enable) tt x k)
+  counts Timing h k = absurd (absent q (λ r. takesGroup r timing) tt x k)
+  counts Own h k = absurd (absent q (λ r. takesGroup r own) tt x k)
+  counts Secondary h k = absurd (absent q (λ r. takesGroup r second) tt x k)
+  counts Enable h k = absurd (absent q (λ r. takesGroup r enable) tt x k)
   counts Delay1 h k = search table depth 16
   counts Delay2 h k = search table depth 16
   counts Disabled h k = search table depth 16
@@ -112,10 +113,10 @@ module _ (q : Request) (s : SavedCall) (a : ℕ) (x : T (target q)) where
   counts TransferClear h k = search table depth 16
   counts (ModifyRead m) h k = search table depth 16
   counts (ModifyWrite PeOff) h k = search table depth 16
-  counts (ModifyWrite PeOn) h k = absurd (absent q (λ r. has r peOn) tt x k)
-  counts (ModifyWrite Listen) h k = absurd (absent q (λ r. has r listen) tt x k)
+  counts (ModifyWrite PeOn) h k = absurd (absent q (λ r. takesGroup r peOn) tt x k)
+  counts (ModifyWrite Listen) h k = absurd (absent q (λ r. takesGroup r listen) tt x k)
   counts (ModifyWrite NackSet) h k = search table depth 16
-  counts (ModifyWrite ReloadOff) h k = absurd (absent q (λ r. has r reloadOff) tt x k)
+  counts (ModifyWrite ReloadOff) h k = absurd (absent q (λ r. takesGroup r reloadOff) tt x k)
   counts (ModifyWrite SbcOff) h k = search table depth 16
   counts (ModifyWrite ReloadClear) h k = search table depth 16
   counts (ModifyWrite SbcOn) h k = search table depth 16
@@ -222,7 +223,7 @@ own-byte q s h n = ltb→lt (s .byte) (sizeIn q s) (other (ltb (s .byte) (sizeIn
     other false y h n = absurd (T-not y n h)
 
 module _ (q : Request) (s : SavedCall) (a m : ℕ) (x : T (target q)) (v : StandsAt q m s) where
-  abbrev later : Then → Type 0
+  abbrev later : Effect → Type 0
   later n = StandsAt q (m + 1) (applyOf (counted (viewOf q s) s) a n)
 
   -- BYTE is one more, in the same block or, where this one is full, in the next
@@ -260,7 +261,7 @@ module _ (q : Request) (s : SavedCall) (a m : ℕ) (x : T (target q)) (v : Stand
       (λ l. next-block l (nor-1 (transaction (q .call)) (thereIn q (counted (viewOf q s) s)) n)))
 
   -- any other step moves none
-  stands-after : (t : Step) (n : Then) → Fresh t s → Fits q s t n → StandsAt q m (applyOf s a n)
+  stands-after : (t : Step) (n : Effect) → Fresh t s → Fits q s t n → StandsAt q m (applyOf s a n)
   stands-after t (Goes u) e f = v
   stands-after t (Loads u) e f = v
   stands-after t (Notes o u) e f = v
@@ -276,11 +277,11 @@ none-moved q i j z = by-test (λ n. 255 * i + n ≡ 0) (receives (q .call)) (λ 
 
 -- an ended transfer that is done says this count
 abbrev Says : Request → SavedCall → Type 0
-Says q s = T (is (s .step) Ended) → T (isDone (s .outcome)) → s .outcome ≡ Done (countOf (q .call) s)
+Says q s = T (sameStep (s .step) Ended) → T (isDone (s .outcome)) → s .outcome ≡ Done (countOf (q .call) s)
 
-says-after : (q : Request) (s : SavedCall) (a : ℕ) (t : Step) (n : Then) →
+says-after : (q : Request) (s : SavedCall) (a : ℕ) (t : Step) (n : Effect) →
     Fresh t s → Fits q s t n → Counts q s t n → Says q (applyOf s a n)
-says-after q s a t (Goes u) z f c e d = absurd (T-not (is u Ended) (f .why .2) e)
+says-after q s a t (Goes u) z f c e d = absurd (T-not (sameStep u Ended) (f .why .2) e)
 says-after q s a t (Loads u) z f c e d = absurd (not-end u (f .why) e)
 says-after q s a t (Notes o u) z f c e d = absurd (not-end u (f .why) e)
 says-after q s a t (Next u) z f c e d = absurd (not-end u (f .why .2) e)
@@ -308,12 +309,12 @@ module _ (q : Request) (s : SavedCall) (b : List ℕ) (a : ℕ) (z : Seen) (x : 
       go true i v = length-append (z .got) (byteOf a ∷ [])
       go false i v = length-append (z .out) (v ∷ [])
 
-  moved-quiet : (t : Step) → T (not (is t Byte)) → T (flushOk t (z .two) (z .one)) → after t ≡ movedOf q z
+  moved-quiet : (t : Step) → T (not (sameStep t Byte)) → T (flushOk t (z .two) (z .one)) → after t ≡ movedOf q z
   moved-quiet t n f = let k = quiet q b s a t (z .two) (z .one) n f in simp (k .out, k .got, append-nil)
 
-  stands-moved : (t : Step) → T (is t Byte) → T (flushOk t (z .two) (z .one)) →
+  stands-moved : (t : Step) → T (sameStep t Byte) → T (flushOk t (z .two) (z .one)) →
       T (thereIn q s) × (s .piece < length (piecesOf q)) → StandsAt q (movedOf q z) s →
-      StandsAt q (after t) (applyOf (noted (viewOf q s) s a t) a (thenAt (q .call) (q .words) (viewOf q (noted (viewOf q s) s a t)) (noted (viewOf q s) s a t) a t))
+      StandsAt q (after t) (applyOf (noted (viewOf q s) s a t) a (effectAt (q .call) (q .words) (viewOf q (noted (viewOf q s) s a t)) (noted (viewOf q s) s a t) a t))
   stands-moved t y h p v =
       let e = is-eq t Byte y in
       rw (e, moved-byte (p .1) (not-two (z .two) (z .one) (rw e at h))) (stands-byte q s a (movedOf q z) x v (p .0))
@@ -323,7 +324,7 @@ module _ (q : Request) (s : SavedCall) (b : List ℕ) (a : ℕ) (z : Seen) (x : 
   stands-step h r k v =
       let t : Step = s .step in
       subst⁻¹ (StandsAt q (after t)) (after-noted q s a)
-      (both (is t Byte)
+      (both (sameStep t Byte)
       (λ y. stands-moved t y h (at-byte q s (k .known) y) v)
       (λ n. rw (moved-quiet t n h)
       (stands-after q (noted (viewOf q s) s a t) a (movedOf q z) x (by-noted q s a t (Stands q (movedOf q z)) n v)

@@ -13,19 +13,21 @@ use lib.Seq.{take-at}
 use Rattle.registers.specs.Map.{offsetOf}
 use Rattle.registers.specs.declared.Register.{Register}
 use Rattle.registers.specs.declared.Register.the-variants.{Cr1, Cr2, Oar1, Oar2, Timingr, Isr, Icr, Rxdr, Txdr}
-use Rattle.calls.specs.Calls.{Request, numberOf}
+use Rattle.calls.specs.Calls.{Request, callNumber}
+use Rattle.calls.specs.Next.{nextOf}
 use Rattle.calls.specs.Refusals.{requestOf, checkOf, accepts}
 use Rattle.calls.specs.Run.{Entry, readEntry, writeEntry, wordsOf, byteOf, Uncut, here, first, uncutTurn, uncutOf, noCall, begunBy, begunOf, Run, stops, turnOf, advanceFrom, runBy, runOf, Final, asFinal, finalBy}
-use Rattle.calls.specs.Steps.{accessOf, afterOf, beginOf, is}
+use Rattle.calls.specs.Steps.{accessOf, afterOf, beginOf, sameStep}
 use Rattle.calls.proofs.Accepted.{accepted-after, accepted-begin}
 use Rattle.calls.proofs.Along.{has-access, no-access, made as Along·made}
 use Rattle.calls.proofs.Every.{every}
 use Rattle.calls.proofs.Logic.{both, is-true, is-false}
-use Rattle.calls.specs.Advances.{Advance, Meets, isRefusal, refused, Follows, none, but, then, made, joined, given, bufferAfter, savedAfter, Last, nobody, last, orElse, lastAccepted, isRead, Came, over, full, waiting, LastCame, NoneRefused, Untouched, RefusedUntouched, answersIn, OneRun, NoRun, CutAnywhere}
+use Rattle.calls.specs.Advances.{Advance, Meets, isRefusal, refused, Follows, none, but, then, made, joined, given, bufferAfter, savedAfter, Last, nobody, last, orElse, lastAccepted, Came, over, full, waiting, LastCame, NoneRefused, Untouched, RefusedUntouched, answersIn, OneRun, NoRun, CutAnywhere}
 use Rattle.calls.specs.declared.Access.{Access}
 use Rattle.calls.specs.declared.Access.the-variants.{Read, Take, Write, Nothing}
 use Rattle.calls.specs.declared.Call.{Call}
 use Rattle.calls.specs.declared.Description.{Description}
+use Rattle.calls.specs.declared.Next.the-variants as next
 use Rattle.calls.specs.declared.Refusal.the-variants.{SavedCall as BadSavedCall}
 use Rattle.calls.specs.declared.Report.{Report}
 use Rattle.calls.specs.declared.Report.the-variants.{Over, Full, Waiting, Refused}
@@ -62,10 +64,10 @@ isNothing Nothing = true
 
 -- why an advance over n places and the answers l came back
 pub data RunCame (q : Request) (n : ℕ) (l : List ℕ) (R : Run) : Type 0 where
-  over′ : T (is (R .saved .step) Ended) → R .report ≡ Over (R .saved .outcome) → RunCame q n l R
-  full′ : T (not (is (R .saved .step) Ended)) → length (R .entries) ≡ n → R .report ≡ Full → RunCame q n l R
-  waiting′ : T (not (is (R .saved .step) Ended)) → length (R .entries) < n → T (isRead (accessOf q (R .buffer) (R .saved))) →
-      R .used ≡ length l → R .report ≡ Waiting → RunCame q n l R
+  over′ : T (sameStep (R .saved .step) Ended) → R .report ≡ Over (R .saved .outcome) → RunCame q n l R
+  full′ : T (not (sameStep (R .saved .step) Ended)) → length (R .entries) ≡ n → R .report ≡ Full → RunCame q n l R
+  waiting′ : (r : Register) → T (not (sameStep (R .saved .step) Ended)) → length (R .entries) < n →
+      nextOf (accessOf q (R .buffer) (R .saved)) ≡ next.Read r → R .used ≡ length l → R .report ≡ Waiting r → RunCame q n l R
 
 -- what an advance R from s is to the uncut run: over the answers that it used and then `rest`, to as many accesses and m
 -- more, that is the advance and then the run over `rest`
@@ -82,14 +84,14 @@ came-more : (q : Request) (n : ℕ) (l l′ : List ℕ) (e : Entry) (u : ℕ) (R
     → RunCame q (suc n) l′ (record { report = R .report; saved = R .saved; buffer = R .buffer; used = u; entries = e ∷ R .entries })
 came-more q n l l′ e u R (over′ h r) f = over′ h r
 came-more q n l l′ e u R (full′ h w r) f = full′ h (ap suc w) r
-came-more q n l l′ e u R (waiting′ h w x v r) f = waiting′ h (omega arith) x (f v) r
+came-more q n l l′ e u R (waiting′ k h w x v r) f = waiting′ k h (omega arith) x (f v) r
 
 -- a call has ended where it has no access
-ended-nothing : (q : Request) (b : List ℕ) (s : SavedCall) → is (s .step) Ended ≡ isNothing (accessOf q b s)
+ended-nothing : (q : Request) (b : List ℕ) (s : SavedCall) → sameStep (s .step) Ended ≡ isNothing (accessOf q b s)
 ended-nothing q b s =
-    both (is (s .step) Ended)
-    (λ e. is-true (is (s .step) Ended) e ∙ sym (ap isNothing (no-access q b s e)))
-    (λ n. is-false (is (s .step) Ended) n ∙ go (accessOf q b s) (has-access q b s n))
+    both (sameStep (s .step) Ended)
+    (λ e. is-true (sameStep (s .step) Ended) e ∙ sym (ap isNothing (no-access q b s e)))
+    (λ n. is-false (sameStep (s .step) Ended) n ∙ go (accessOf q b s) (has-access q b s n))
   where
     go : (x : Access) → T (Along·made x) → false ≡ isNothing x
     go (Read r) h = refl
@@ -102,10 +104,11 @@ module _ (q : Request) where
   nothing n r s b l c = record { goes-on = λ m rest. rw zero-add; answers = refl; size = refl; accepted = λ h. h; came = c }
 
   module _ (n : ℕ) (ih : (s : SavedCall) (b l : List ℕ) → Part q n s b l (advanceFrom q n s b l)) (s : SavedCall) (b : List ℕ) where
-    waits : (x : Access) → accessOf q b s ≡ x → T (isRead x) → T (not (isNothing x)) → Part q (suc n) s b [] (stops Waiting s b)
-    waits x e h k =
-        nothing (suc n) Waiting s b []
-        (waiting′ (rw (ended-nothing q b s, e) k) (omega arith) (rw e h) refl refl)
+    waits : (r : Register) (x : Access) → accessOf q b s ≡ x → nextOf x ≡ next.Read r → T (not (isNothing x)) →
+        Part q (suc n) s b [] (stops (Waiting r) s b)
+    waits r x e h k =
+        nothing (suc n) (Waiting r) s b []
+        (waiting′ r (rw (ended-nothing q b s, e) k) (omega arith) (rw e h) refl refl)
 
     turn : (l : List ℕ) (x : Access) → accessOf q b s ≡ x → Part q (suc n) s b l (turnOf (advanceFrom q n) q s b l x)
     unfolding uncutOf
@@ -119,7 +122,7 @@ module _ (q : Request) where
           accepted = λ h. p .accepted (accepted-after q s 0 h);
           came = came-more q n l l (writeEntry r v) _ _ (p .came) (λ u. u);
         }
-    turn [] (Read r) e = waits (Read r) e tt tt
+    turn [] (Read r) e = waits r (Read r) e refl tt
     turn (a ∷ l) (Read r) e =
         let p = ih (afterOf q s a) b l in
         record {
@@ -129,7 +132,7 @@ module _ (q : Request) where
           accepted = λ h. p .accepted (accepted-after q s a h);
           came = came-more q n l (a ∷ l) (readEntry r a) _ _ (p .came) (ap suc);
         }
-    turn [] (Take i) e = waits (Take i) e tt tt
+    turn [] (Take i) e = waits Rxdr (Take i) e refl tt
     turn (a ∷ l) (Take i) e =
         let p = ih (afterOf q s a) (set b i (byteOf a)) l in
         record {
@@ -144,13 +147,13 @@ module _ (q : Request) where
   unfolding advanceFrom
   part zero s b l =
       nothing zero _ s b l
-      (both (is (s .step) Ended)
-      (λ h. over′ h (rw (is-true (is (s .step) Ended) h)))
-      (λ h. full′ h refl (rw (is-false (is (s .step) Ended) h))))
+      (both (sameStep (s .step) Ended)
+      (λ h. over′ h (rw (is-true (sameStep (s .step) Ended) h)))
+      (λ h. full′ h refl (rw (is-false (sameStep (s .step) Ended) h))))
   part (suc n) s b l = turn n (part n) s b l (accessOf q b s) refl
 
   -- past its end a call makes no access
-  pub ended-stays : (m : ℕ) (s : SavedCall) (b l : List ℕ) → T (is (s .step) Ended) → uncutOf q m s b l ≡ here s b
+  pub ended-stays : (m : ℕ) (s : SavedCall) (b l : List ℕ) → T (sameStep (s .step) Ended) → uncutOf q m s b l ≡ here s b
   unfolding uncutOf
   ended-stays zero s b l h = refl
   ended-stays (suc m) s b l h = go (accessOf q b s) (rw (ended-nothing q b s) at h)
@@ -204,7 +207,7 @@ runs c d ops n s b l e h = rw (e, is-true (accepts (requestOf c d ops (length b)
 not-refusal : (q : Request) (n : ℕ) (l : List ℕ) (R : Run) → RunCame q n l R → T (not (isRefusal (R .report)))
 not-refusal q n l R (over′ h r) = rw r tt
 not-refusal q n l R (full′ h w r) = rw r tt
-not-refusal q n l R (waiting′ h w x u r) = rw r tt
+not-refusal q n l R (waiting′ k h w x u r) = rw r tt
 
 pub record Stopped (s : SavedCall) (b : List ℕ) (R : Run) : Type 0 where
   pub saved : R .saved ≡ s
@@ -300,7 +303,7 @@ came-as : (q : Request) (s : SavedCall) (b : List ℕ) (A : Advance) (R : Run) �
     → RunCame q (length (A .log) / 2) (A .answers) R → s ≡ R .saved → b ≡ R .buffer → Came q s b A
 came-as q s b A R g (over′ h r) e f = over (rw e h) (g .report ∙ r ∙ rw e)
 came-as q s b A R g (full′ h w r) e f = full (rw e h) (g .written ∙ w) (g .report ∙ r)
-came-as q s b A R g (waiting′ h w x u r) e f = waiting (rw e h) (rw (g .written) w) (rw (e, f) x) (g .used ∙ u) (g .report ∙ r)
+came-as q s b A R g (waiting′ k h w x u r) e f = waiting k (rw e h) (rw (g .written) w) (rw (e, f) x) (g .used ∙ u) (g .report ∙ r)
 
 ran-accepted : (q : Request) (s : SavedCall) (b : List ℕ) (A : Advance) (As : List Advance) (R : Run) → Got A R
     → Part q (length (A .log) / 2) s b (A .answers) R → T (not (refused A)) → Ran q (A .result .saved) (A .bufferLeft) As → Ran q s b (A ∷ As)
@@ -378,8 +381,8 @@ one-run q b As r = record {
 
 -- ---- after a refused begin
 
-no-number : (c : Call) → eqb 0 (numberOf c) ≡ false
-no-number c = is-false (eqb 0 (numberOf c)) (every (λ c. not (eqb 0 (numberOf c))) tt c)
+no-number : (c : Call) → eqb 0 (callNumber c) ≡ false
+no-number c = is-false (eqb 0 (callNumber c)) (every (λ c. not (eqb 0 (callNumber c))) tt c)
 
 pub refuses : (v : Verdict) (d : Description) (ops : List ℕ) (n : ℕ) (b l : List ℕ) → T (isRefusal (runBy v d ops n noCall b l .report))
 unfolding accepts

@@ -8,14 +8,16 @@ use mathlib.Core.List.{List, [], _∷_, append-nil}
 use lib.Dec.{T, T-not, eqb, ltb, leb, leb→le, ltb→lt}
 use lib.ListN.{length, drop, set, take-append-drop}
 use lib.Seq.{drop-length}
-use Rattle.calls.specs.Advances.{isRead}
+use Rattle.registers.specs.declared.Register.{Register}
+use Rattle.calls.specs.Next.{nextOf}
+use Rattle.calls.specs.declared.Next.the-variants as next
 use Rattle.calls.specs.Calls.{Request, manual}
 use Rattle.calls.specs.Joined.{isFull}
 use Rattle.calls.specs.Pieces.{viewOf}
 use Rattle.calls.specs.Refusals.{requestOf, checkOf}
 use Rattle.calls.specs.Run.{byteOf, here, uncutTurn, uncutOf, noCall, begunOf, Run, stops, turnOf, advanceFrom, runOf}
-use Rattle.calls.specs.Steps.{accessAt, accessOf, afterOf, applyOf, thenAt, beginOf, is}
-use Rattle.calls.specs.Whole.{Whole, WholeCall}
+use Rattle.calls.specs.Steps.{accessAt, accessOf, afterOf, applyOf, effectAt, beginOf, sameStep}
+use Rattle.calls.specs.Whole.{stopAt, Whole, WholeCall}
 use Rattle.calls.specs.declared.Access.{Access}
 use Rattle.calls.specs.declared.Access.the-variants.{Read, Take, Write, Nothing}
 use Rattle.calls.specs.declared.Call.{Call}
@@ -27,12 +29,13 @@ use Rattle.calls.specs.declared.Report.the-variants.{Over, Full, Waiting
 use Rattle.calls.specs.declared.SavedCall.{SavedCall}
 use Rattle.calls.specs.declared.Step.{Step}
 use Rattle.calls.specs.declared.Step.the-variants.{Ended, Begin, StartStatus, StartControl, Wait, Byte, StopClear, BusClear, ArbitrationClear, NackClear, FlushTxis, FlushByte, FlushTxe, Flush, Timing, Own, Secondary, Enable, Delay1, Delay2, Disabled, Event, EventFlush, EventClear, Address, TransferClear, ModifyRead, ModifyWrite}
-use Rattle.calls.specs.declared.Then.{Then}
-use Rattle.calls.specs.declared.Then.the-variants.{Goes, Loads, Notes, Next, Enters, Fails, Ends}
+use Rattle.calls.specs.declared.Effect.{Effect}
+use Rattle.calls.specs.declared.Effect.the-variants.{Goes, Loads, Notes, Next, Enters, Fails, Ends}
 use Rattle.calls.specs.declared.Verdict.{Verdict}
 use Rattle.calls.specs.declared.Verdict.the-variants.{Accepted, Refused as Rejected}
 use Rattle.calls.specs.declared.View.{View}
 use Rattle.calls.proofs.Accepted.{accepted-begin}
+use Rattle.calls.proofs.Along.{no-access}
 use Rattle.calls.proofs.Cut.{RunCame, over′, full′, waiting′, part, ended-stays, runs}
 use Rattle.calls.proofs.Every.{every-step}
 use Rattle.calls.proofs.Fits.{stepOf}
@@ -89,11 +92,11 @@ rank (ModifyWrite m) = modifyRank m
 abbrev below : Step → Step → Bool
 below t u = eqb (rank t) 0 || ltb (rank u) (rank t)
 
-record Lower (t : Step) (n : Then) : Type 0 where
+record Lower (t : Step) (n : Effect) : Type 0 where
   lower : T (below t (stepOf n))
 
 module _ {t : Step} where
-  test : (b : Bool) {x y : Then} → (T b → Lower t x) → (T (not b) → Lower t y) → Lower t (cond b x y)
+  test : (b : Bool) {x y : Effect} → (T b → Lower t x) → (T (not b) → Lower t y) → Lower t (cond b x y)
   test = by-test (Lower t)
 
   goes-if : (b : Bool) {u w : Step} → Lower t (Goes u) → Lower t (Goes w) → Lower t (Goes (cond b u w))
@@ -106,13 +109,13 @@ module _ {t : Step} where
   enters-if b h g = by-test (λ u. Lower t (Enters u)) b (λ _. h) (λ _. g)
 
   -- EVENT_CLEAR asks twice who acknowledges
-  not-both : (c : Call) (n : Then) → T (manual c) → T (not (manual c)) → Lower t n
+  not-both : (c : Call) (n : Effect) → T (manual c) → T (not (manual c)) → Lower t n
   not-both c n h g = absurd (T-not (manual c) g h)
 
 ruleset table = (test, goes-if, next-if, enters-if, tt)
 
 module _ (c : Call) (d : Description) (v : View) (s : SavedCall) (a : ℕ) where
-  row : (t : Step) → Lower t (thenAt c d v s a t)
+  row : (t : Step) → Lower t (effectAt c d v s a t)
   row Ended = search table depth 16
   row Begin = search table depth 16
   row StartStatus = search table depth 16
@@ -162,7 +165,7 @@ isWrite (Take i) = false
 isWrite (Write r v) = true
 isWrite Nothing = false
 
-apply-step : (s : SavedCall) (a : ℕ) (n : Then) → applyOf s a n .step ≡ stepOf n
+apply-step : (s : SavedCall) (a : ℕ) (n : Effect) → applyOf s a n .step ≡ stepOf n
 apply-step s a (Goes u) = refl
 apply-step s a (Loads u) = refl
 apply-step s a (Notes o u) = refl
@@ -226,16 +229,17 @@ run-ends d ops n s b l h e = rw e at (never-full d ops n s b l h)
 -- ---- such a run is the whole uncut run
 
 -- a read without an answer stays where it is
-waiting-stays : (q : Request) (m : ℕ) (s : SavedCall) (b : List ℕ) → T (isRead (accessOf q b s)) → uncutOf q m s b [] ≡ here s b
+waiting-stays : (q : Request) (m : ℕ) (s : SavedCall) (b : List ℕ) (r : Register) →
+    nextOf (accessOf q b s) ≡ next.Read r → uncutOf q m s b [] ≡ here s b
 unfolding uncutOf
-waiting-stays q zero s b h = refl
-waiting-stays q (suc m) s b h = go (accessOf q b s) h
+waiting-stays q zero s b r h = refl
+waiting-stays q (suc m) s b r h = go (accessOf q b s) h
   where
-    go : (x : Access) → T (isRead x) → uncutTurn (uncutOf q m) q s b [] x ≡ here s b
-    go (Read r) h = refl
+    go : (x : Access) → nextOf x ≡ next.Read r → uncutTurn (uncutOf q m) q s b [] x ≡ here s b
+    go (Read k) h = refl
     go (Take i) h = refl
-    go (Write r v) h = absurd h
-    go Nothing h = absurd h
+    go (Write k v) h = let z : _≡_ {A = ℕ} 0 1 = cc in absurd (omega arith)
+    go Nothing h = let z : _≡_ {A = ℕ} 0 1 = cc in absurd (omega arith)
 
 module _ (q : Request) (n : ℕ) (s : SavedCall) (b l : List ℕ) where
   abbrev R : Run
@@ -245,7 +249,7 @@ module _ (q : Request) (n : ℕ) (s : SavedCall) (b l : List ℕ) where
   abbrev Stays : Type 0
   Stays = (m : ℕ) → uncutOf q m (R .saved) (R .buffer) (drop (R .used) l) ≡ here (R .saved) (R .buffer)
 
-  whole-by : Stays → R .report ≡ cond (is (R .saved .step) Ended) (Over (R .saved .outcome)) Waiting → Whole q s b l R
+  whole-by : Stays → R .report ≡ stopAt (R .saved .outcome) (nextOf (accessOf q (R .buffer) (R .saved))) → Whole q s b l R
   whole-by f r =
       let p = part q n s b l in
       record {
@@ -260,11 +264,11 @@ module _ (q : Request) (n : ℕ) (s : SavedCall) (b l : List ℕ) where
   whole : RunCame q n l R → T (not (isFull (R .report))) → Whole q s b l R
   whole (over′ e r) h =
       whole-by (λ m. ended-stays q m (R .saved) (R .buffer) (drop (R .used) l) e)
-      (r ∙ rw (is-true (is (R .saved .step) Ended) e))
+      (r ∙ rw (no-access q (R .buffer) (R .saved) e))
   whole (full′ e w r) h = absurd (rw r at h)
-  whole (waiting′ e w x u r) h =
-      whole-by (λ m. rw (u, drop-length l) (waiting-stays q m (R .saved) (R .buffer) x))
-      (r ∙ rw (is-false (is (R .saved .step) Ended) e))
+  whole (waiting′ k e w x u r) h =
+      whole-by (λ m. rw (u, drop-length l) (waiting-stays q m (R .saved) (R .buffer) k x))
+      (r ∙ rw x)
 
 -- what begin handed out
 begun-accepted : (c : Call) (d : Description) (ops : List ℕ) (n : ℕ) → checkOf d ops n ≡ Accepted c

@@ -3,19 +3,18 @@
 use Prim.Native.Nat.{ℕ, zero, suc}
 use mathlib.Core.Path.{_≡_, refl, sym, ap, subst, _∙_}
 use mathlib.Core.Bool.{Bool, true, not, _&&_, _||_}
-use mathlib.Core.List.{List, [], _∷_, _++_, map}
+use mathlib.Core.List.{List, [], _∷_}
 use lib.Dec.{T, eqb, eqb→eq}
 use lib.ListN.{getD}
 use Rattle.fields.proofs.Laws.{and-l, and-r}
-use Rattle.calls.specs.Calls.{Request, numberOf, call, transaction}
-use Rattle.calls.specs.Steps.{stepNumber, is}
-use Rattle.calls.specs.Refusals.{listed, lookupIn, lookupOf, Group, has}
+use Rattle.calls.specs.Calls.{Request, callNumber, isCall, transaction}
+use Rattle.calls.specs.Steps.{stepNumber, steps, sameStep}
+use Rattle.calls.specs.Refusals.{listed, lookupIn, lookupOf, Group, takesGroup}
 use Rattle.calls.specs.declared.Ack.the-variants.{AutoAck, ManualAck}
 use Rattle.calls.specs.declared.Call.{Call}
 use Rattle.calls.specs.declared.Call.the-variants.{New, TargetNew, ConfigureTargetAddresses, EnableTargetEvent, DisableTargetEvent, Reset, Transaction, WaitForEvent, Read, Write, WaitForTargetRead, WaitForTargetWrite, WaitForStop, AckTransfer, NackTransfer}
 use Rattle.calls.specs.declared.Lookup.{Lookup}
 use Rattle.calls.specs.declared.Lookup.the-variants.{Listed}
-use Rattle.calls.specs.declared.Modify.{Modify}
 use Rattle.calls.specs.declared.Modify.the-variants.{PeOff, PeOn, Listen, NackSet, ReloadOff, SbcOff, ReloadClear, SbcOn, ReloadOn, NbytesSet}
 use Rattle.calls.specs.declared.Step.{Step}
 use Rattle.calls.specs.declared.Step.the-variants.{Ended, Begin, StartStatus, StartControl, Wait, Byte, StopClear, BusClear, ArbitrationClear, NackClear, FlushTxis, FlushByte, FlushTxe, Flush, Timing, Own, Secondary, Enable, Delay1, Delay2, Disabled, Event, EventFlush, EventClear, Address, TransferClear, ModifyRead, ModifyWrite}
@@ -26,7 +25,7 @@ all f [] = true
 all f (x ∷ xs) = f x && all f xs
 
 -- ---- the calls: the listed one of a call's number is the call
-pub found : (c : Call) → lookupOf (numberOf c) ≡ Listed c
+pub found : (c : Call) → lookupOf (callNumber c) ≡ Listed c
 unfolding lookupOf
 found New = refl
 found TargetNew = refl
@@ -50,14 +49,14 @@ found (WaitForStop ManualAck) = refl
 found AckTransfer = refl
 found NackTransfer = refl
 
-pub by-number : (c e : Call) → T (eqb (numberOf c) (numberOf e)) → c ≡ e
-by-number c e h = let n : numberOf c ≡ numberOf e = eqb→eq (numberOf c) (numberOf e) h in cc (found c, found e)
+pub by-number : (c e : Call) → T (eqb (callNumber c) (callNumber e)) → c ≡ e
+by-number c e h = let n : callNumber c ≡ callNumber e = eqb→eq (callNumber c) (callNumber e) h in cc (found c, found e)
 
 of-listed : (f : Call → Bool) (cs : List Call) (c : Call) →
-    lookupIn cs (numberOf c) ≡ Listed c → T (all f cs) → T (f c)
+    lookupIn cs (callNumber c) ≡ Listed c → T (all f cs) → T (f c)
 of-listed f [] c e t = let z : f c ≡ true = cc in rw z tt
 of-listed f (x ∷ xs) c e t =
-    by-test (λ (l : Lookup). l ≡ Listed c → T (f c)) (eqb (numberOf c) (numberOf x))
+    by-test (λ (l : Lookup). l ≡ Listed c → T (f c)) (eqb (callNumber c) (callNumber x))
     (λ _ e. let z : x ≡ c = cc in rw z at (and-l (f x) (all f xs) t))
     (λ _ e. of-listed f xs c e (and-r (f x) (all f xs) t))
     e
@@ -76,24 +75,14 @@ pub implied : (q : Request) (a b : Request → Bool) →
 implied q a b t h = implies (a q) (b q) (every (λ c. b (asks q c) || not (a (asks q c))) t (q .call)) h
 
 -- what takes a step of a group is no transaction, unless a transaction takes that group
-pub aside : (q : Request) (g : Group) → T (has q g) → T (has (asks q Transaction) g || not (transaction (q .call)))
-unfolding call
+pub aside : (q : Request) (g : Group) → T (takesGroup q g) → T (takesGroup (asks q Transaction) g || not (transaction (q .call)))
+unfolding isCall
 aside q g h =
     both (transaction (q .call))
-    (λ x. let h′ = subst (λ (c : Call). T (has (asks q c) g)) (by-number (q .call) Transaction x) h in search or-0)
+    (λ x. let h′ = subst (λ (c : Call). T (takesGroup (asks q c) g)) (by-number (q .call) Transaction x) h in search or-0)
     (λ n. search or-1)
 
 -- ---- the steps: each stands in the list at its number
-abbrev pub modifies : List Modify
-modifies = PeOff ∷ PeOn ∷ Listen ∷ NackSet ∷ ReloadOff ∷ SbcOff ∷ ReloadClear ∷ SbcOn ∷ ReloadOn ∷ NbytesSet ∷ []
-
-abbrev pub steps : List Step
-steps =
-    Ended ∷ Begin ∷ StartStatus ∷ StartControl ∷ Wait ∷ Byte ∷ StopClear ∷ BusClear ∷ ArbitrationClear ∷ NackClear
-    ∷ FlushTxis ∷ FlushByte ∷ FlushTxe ∷ Flush ∷ Timing ∷ Own ∷ Secondary ∷ Enable
-    ∷ Delay1 ∷ Delay2 ∷ Disabled ∷ Event ∷ EventFlush ∷ EventClear ∷ Address ∷ TransferClear
-    ∷ map ModifyRead modifies ++ map ModifyWrite modifies
-
 abbrev stepAt : ℕ → Step
 stepAt n = getD steps n Ended
 
@@ -145,7 +134,7 @@ back (ModifyWrite SbcOn) = refl
 back (ModifyWrite ReloadOn) = refl
 back (ModifyWrite NbytesSet) = refl
 
-pub is-eq : (t u : Step) → T (is t u) → t ≡ u
+pub is-eq : (t u : Step) → T (sameStep t u) → t ≡ u
 is-eq t u h = sym (back t) ∙ ap stepAt (eqb→eq (stepNumber t) (stepNumber u) h) ∙ back u
 
 in-steps : (f : Step → Bool) (ts : List Step) (n : ℕ) → T (f Ended) → T (all f ts) → T (f (getD ts n Ended))

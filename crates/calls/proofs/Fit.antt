@@ -7,7 +7,7 @@ use mathlib.Core.Bool.{Bool, true, false, not, _&&_, _||_}
 use mathlib.Core.List.{List, [], _∷_}
 use lib.Dec.{T, eqb, ltb, eqb→eq, nltb→le}
 use lib.ListN.{length}
-use Rattle.calls.specs.Calls.{numberOf, call, transaction}
+use Rattle.calls.specs.Calls.{callNumber, transaction, manual, receives, transmits}
 use Rattle.calls.specs.Refusals.{noSuchCall, addressWide, total, anyOf, strangeBits, listWrong, operationLong, bufferWrong, verdictOf, requestOf, verdictBy, listed, lookupIn, lookupOf, checkOf}
 use Rattle.calls.specs.declared.Call.{Call}
 use Rattle.calls.specs.declared.Description.{Description}
@@ -25,20 +25,20 @@ pub record Fit (c : Call) (ops : List ℕ) (n : ℕ) : Type 0 where
 
 -- a call that is looked up has that number
 abbrev Numbered : ℕ → Lookup → Type 0
-Numbered n (Listed c) = numberOf c ≡ n
+Numbered n (Listed c) = callNumber c ≡ n
 Numbered n Unlisted = Unit {0}
 
 looked-up : (cs : List Call) (n : ℕ) → Numbered n (lookupIn cs n)
 looked-up [] n = tt
-looked-up (c ∷ cs) n = by-test (Numbered n) (eqb n (numberOf c)) (λ h. sym (eqb→eq n (numberOf c) h)) (λ _. looked-up cs n)
+looked-up (c ∷ cs) n = by-test (Numbered n) (eqb n (callNumber c)) (λ h. sym (eqb→eq n (callNumber c) h)) (λ _. looked-up cs n)
 
 -- the rows that an accepted call passed
 record Passed (c : Call) (d : Description) (ops : List ℕ) (n : ℕ) : Type 0 where
-  number : numberOf c ≡ d .call
+  number : callNumber c ≡ d .call
   list : T (not (listWrong c ops n))
   buffer : T (not (bufferWrong c n))
 
-passed : (c₀ c : Call) (d : Description) (ops : List ℕ) (n : ℕ) → numberOf c₀ ≡ d .call
+passed : (c₀ c : Call) (d : Description) (ops : List ℕ) (n : ℕ) → callNumber c₀ ≡ d .call
     → verdictOf (requestOf c₀ d ops n) ≡ Accepted c → Passed c d ops n
 unfolding verdictOf
 passed c₀ c d ops n f =
@@ -63,7 +63,7 @@ checked c d ops n = go (lookupOf (d .call)) (looked-up listed (d .call))
     go Unlisted f e = let z : _≡_ {A = ℕ} 0 1 = cc in absurd (omega arith)
     go (Listed c₀) f e = passed c₀ c d ops n f e
 
-pub accepted-number : (c : Call) (d : Description) (ops : List ℕ) (n : ℕ) → checkOf d ops n ≡ Accepted c → numberOf c ≡ d .call
+pub accepted-number : (c : Call) (d : Description) (ops : List ℕ) (n : ℕ) → checkOf d ops n ≡ Accepted c → callNumber c ≡ d .call
 accepted-number c d ops n e = checked c d ops n e .number
 
 -- the list of a transaction: not too many, and the whole buffer
@@ -80,7 +80,7 @@ accepted-fit c d ops n e =
     record {
       size =
           nltb→le 65535 n
-          (nor-1 ((call c 9 || (call c 10 || (call c 11 || call c 12))) && eqb n 0) (ltb 65535 n) (p .buffer));
+          (nor-1 (((receives c || transmits c) && not (manual c)) && eqb n 0) (ltb 65535 n) (p .buffer));
       few = λ t. nltb→le 64 (length ops) (fits (p .list) t .0);
       sum = λ t. eqb→eq (total ops) n (fits (p .list) t .1);
     }

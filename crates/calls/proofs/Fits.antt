@@ -8,13 +8,13 @@ use mathlib.Core.List.{List, [], _∷_}
 use lib.Dec.{T, T-not, ltb→lt}
 use lib.ListN.{length}
 use Rattle.fields.proofs.Laws.{and-l, and-r}
-use Rattle.calls.specs.Calls.{Request, call, kinds, transaction, manual, receives, transmits, eventful}
+use Rattle.calls.specs.Calls.{Request, isCall, isKind, transaction, manual, receives, transmits, eventful}
 use Rattle.calls.specs.Outcomes.{isDone}
 use Rattle.calls.specs.Pieces.{Piece, blocksOf, piecesFor, piecesOf, pieceAt, viewOf}
-use Rattle.calls.specs.Steps.{failing, awaited, waitAt, entryStep, clearStep, thenAt, is}
-use Rattle.calls.specs.Refusals.{some, Group, any, starts, move, stop, errors, nack, timing, own, second, enable, reset, events, blocks, peOff, peOn, listen, nackSet, reloadOff, manualEvents, groupOf, has, hasIn, takes}
+use Rattle.calls.specs.Steps.{failing, awaited, waitAt, entryStep, clearStep, effectAt, sameStep}
+use Rattle.calls.specs.Refusals.{hasPieces, Group, any, starts, move, stop, errors, nack, timing, own, second, enable, reset, events, blocks, peOff, peOn, listen, nackSet, reloadOff, manualEvents, groupOf, takesGroup, groupTaken, takes}
 use Rattle.calls.specs.declared.Call.{Call}
-use Rattle.calls.specs.declared.Call.the-variants.{Transaction}
+use Rattle.calls.specs.declared.Call.the-variants.{New, TargetNew, ConfigureTargetAddresses, Reset, Transaction}
 use Rattle.calls.specs.declared.Flag.{Flag}
 use Rattle.calls.specs.declared.Flag.the-variants.{Rxne, Txis, Tc, Tcr, Stopf, Never}
 use Rattle.calls.specs.declared.Modify.the-variants.{PeOff, PeOn, Listen, NackSet, ReloadOff, SbcOff, ReloadClear, SbcOn, ReloadOn, NbytesSet}
@@ -22,8 +22,8 @@ use Rattle.calls.specs.declared.Outcome.{Outcome}
 use Rattle.calls.specs.declared.SavedCall.{SavedCall}
 use Rattle.calls.specs.declared.Step.{Step}
 use Rattle.calls.specs.declared.Step.the-variants.{Ended, Begin, StartStatus, StartControl, Wait, Byte, StopClear, BusClear, ArbitrationClear, NackClear, FlushTxis, FlushByte, FlushTxe, Flush, Timing, Own, Secondary, Enable, Delay1, Delay2, Disabled, Event, EventFlush, EventClear, Address, TransferClear, ModifyRead, ModifyWrite}
-use Rattle.calls.specs.declared.Then.{Then}
-use Rattle.calls.specs.declared.Then.the-variants.{Goes, Loads, Notes, Next, Enters, Fails, Ends}
+use Rattle.calls.specs.declared.Effect.{Effect}
+use Rattle.calls.specs.declared.Effect.the-variants.{Goes, Loads, Notes, Next, Enters, Fails, Ends}
 use Rattle.calls.proofs.Logic.{only, only-yes, only-not, not-and, not-and-1, and-in, or-0, or-1, or-else, nor-0, nor-1, by-test, both}
 use Rattle.calls.proofs.Every.{implied, asks, aside}
 use Rattle.calls.proofs.Views.{thereIn, lastIn, readsIn}
@@ -36,7 +36,7 @@ over q s = failing (q .call) s || (lastIn q s && not (thereIn q s))
 -- it is at FLUSH_BYTE and is not at BYTE
 abbrev pub flushOk : Step → Bool → Bool → Bool
 flushOk t two one =
-    Bool·beq one (is t FlushTxis) && ((not (is t FlushByte) || two) && (not (is t Byte) || not two))
+    Bool·beq one (sameStep t FlushTxis) && ((not (sameStep t FlushByte) || two) && (not (sameStep t Byte) || not two))
 
 -- the steps of an event, before any byte is moved
 abbrev pub early : Group → Bool
@@ -63,7 +63,7 @@ early manualEvents = true
 abbrev pub inEvent : Step → Bool
 inEvent t = early (groupOf t)
 
-abbrev pub stepOf : Then → Step
+abbrev pub stepOf : Effect → Step
 stepOf (Goes u) = u
 stepOf (Loads u) = u
 stepOf (Notes o u) = u
@@ -74,24 +74,24 @@ stepOf (Ends o) = Ended
 
 -- no BYTE, STOP_CLEAR or ENDED, which are entered for a reason
 abbrev pub plain : Step → Bool
-plain u = not (is u Byte) && (not (is u StopClear) && not (is u Ended))
+plain u = not (sameStep u Byte) && (not (sameStep u StopClear) && not (sameStep u Ended))
 
 -- why the call may go on so: what is known of the bytes, the event and the outcome
-abbrev pub Why : Request → SavedCall → Step → Then → Type 0
+abbrev pub Why : Request → SavedCall → Step → Effect → Type 0
 Why q s t (Goes u) =
-    only (is u Byte) (T (thereIn q s)) × only (is u StopClear && transaction (q .call)) (T (over q s)) × T (not (is u Ended))
+    only (sameStep u Byte) (T (thereIn q s)) × only (sameStep u StopClear && transaction (q .call)) (T (over q s)) × T (not (sameStep u Ended))
 Why q s t (Loads u) = T (plain u)
 Why q s t (Notes o u) = T (plain u)
 Why q s t (Next u) = T (not (thereIn q s)) × T (not (lastIn q s)) × T (plain u) × T (not (inEvent u))
 Why q s t (Enters u) = T (inEvent t) × T (plain u)
 Why q s t (Fails o) = T (not (isDone o))
-Why q s t (Ends o) = only (isDone o && transaction (q .call)) (T (is t StopClear) × (o ≡ s .outcome))
+Why q s t (Ends o) = only (isDone o && transaction (q .call)) (T (sameStep t StopClear) × (o ≡ s .outcome))
 
 -- a step after a step: the flush of a NACK stays in order, and none leads back into the event
 abbrev pub edgeOk : Step → Step → Bool
-edgeOk t u = flushOk u (is t FlushTxis) (is t NackClear) && (not (inEvent u) || inEvent t)
+edgeOk t u = flushOk u (sameStep t FlushTxis) (sameStep t NackClear) && (not (inEvent u) || inEvent t)
 
-pub record Fits (q : Request) (s : SavedCall) (t : Step) (n : Then) : Type 0 where
+pub record Fits (q : Request) (s : SavedCall) (t : Step) (n : Effect) : Type 0 where
   pub taken : T (takes q (stepOf n))
   pub edge : T (edgeOk t (stepOf n))
   pub why : Why q s t n
@@ -100,25 +100,25 @@ pub record Fits (q : Request) (s : SavedCall) (t : Step) (n : Then) : Type 0 whe
 ruleset logic = (and-in, or-0, or-1, and-l, and-r, nor-0, nor-1)
 
 module _ (q : Request) where
-  pub move-some : T (has q move) → T (some q)
-  unfolding hasIn
+  pub move-some : T (takesGroup q move) → T (hasPieces q)
+  unfolding groupTaken
   move-some h = search and-r
 
-  move-target : T (has q move) → T (not (transaction (q .call))) → T (receives (q .call) || transmits (q .call))
-  unfolding hasIn
+  move-target : T (takesGroup q move) → T (not (transaction (q .call))) → T (receives (q .call) || transmits (q .call))
+  unfolding groupTaken
   move-target h n = or-else (transaction (q .call)) (receives (q .call) || transmits (q .call)) (search and-l) n
 
-  errors-move : T (has q errors) → T (transaction (q .call)) → T (has q move)
-  unfolding hasIn call kinds
+  errors-move : T (takesGroup q errors) → T (transaction (q .call)) → T (takesGroup q move)
+  unfolding groupTaken isCall isKind
   errors-move h x = or-else (eventful (q .call)) _ h (implied q (λ r. transaction (r .call)) (λ r. not (eventful (r .call))) tt x)
 
-  timing-in : T (has q peOff && not (call (q .call) 6)) → T (has q timing)
-  unfolding hasIn call
-  timing-in = implied q (λ r. has r peOff && not (call (r .call) 6)) (λ r. has r timing) tt
+  timing-in : T (takesGroup q peOff && not (isCall (q .call) Reset)) → T (takesGroup q timing)
+  unfolding groupTaken isCall
+  timing-in = implied q (λ r. takesGroup r peOff && not (isCall (r .call) Reset)) (λ r. takesGroup r timing) tt
 
-  own-in : T (has q own) → T (call (q .call) 1 || (call (q .call) 2 || call (q .call) 3))
-  unfolding hasIn call
-  own-in = implied q (λ r. has r own) (λ r. call (r .call) 1 || (call (r .call) 2 || call (r .call) 3)) tt
+  own-in : T (takesGroup q own) → T (isCall (q .call) New || (isCall (q .call) TargetNew || isCall (q .call) ConfigureTargetAddresses))
+  unfolding groupTaken isCall
+  own-in = implied q (λ r. takesGroup r own) (λ r. isCall (r .call) New || (isCall (r .call) TargetNew || isCall (r .call) ConfigureTargetAddresses)) tt
 
 -- all pieces of a target call go its way
 pub block-reads : (w : Bool) (f n i : ℕ) → i < length (blocksOf w f n) → pieceAt (blocksOf w f n) i .reads ≡ w
@@ -159,8 +159,8 @@ flagged q s = search (by-test (Flagged q s), logic) depth 16
 entry : (c : Call) (P : Step → Type 0) → P Begin → P (ModifyRead NbytesSet) → P Wait → P (entryStep c)
 entry c P x y z = by-test P (transaction c) (λ _. x) (λ _. by-test P (manual c) (λ _. y) (λ _. z))
 
-entry-taken : (q : Request) → T (has q move) → T (takes q (entryStep (q .call)))
-unfolding hasIn
+entry-taken : (q : Request) → T (takesGroup q move) → T (takes q (entryStep (q .call)))
+unfolding groupTaken
 entry-taken q h =
     by-test (λ (u : Step). T (takes q u)) (transaction (q .call)) (λ x. search logic) (λ n.
     let w = move-target q h n in
@@ -171,39 +171,39 @@ clear c P x y = by-test P (manual c) x (λ _. y)
 
 -- ---- the ways on: a test leads to one of two, and each comes with its step, its edge and its reason
 module _ {q : Request} {s : SavedCall} {t : Step} where
-  test : (c : Bool) {x y : Then} → (T c → Fits q s t x) → (T (not c) → Fits q s t y) → Fits q s t (cond c x y)
+  test : (c : Bool) {x y : Effect} → (T c → Fits q s t x) → (T (not c) → Fits q s t y) → Fits q s t (cond c x y)
   test = by-test (Fits q s t)
 
-  way : (n : Then) → T (takes q (stepOf n)) → T (edgeOk t (stepOf n)) → Why q s t n → Fits q s t n
+  way : (n : Effect) → T (takes q (stepOf n)) → T (edgeOk t (stepOf n)) → Why q s t n → Fits q s t n
   way n h e w = record { taken = h; edge = e; why = w }
 
   -- a way with several reasons, taken apart: `search` comes to a pair last
   goes : (u : Step) → T (takes q u) → T (edgeOk t u) → T (plain u) → Fits q s t (Goes u)
   goes u h e p = way (Goes u) h e (search (only-not, not-and, and-l, and-r))
 
-  nexts : T (has q move) → T (not (thereIn q s)) → T (not (lastIn q s)) →
+  nexts : T (takesGroup q move) → T (not (thereIn q s)) → T (not (lastIn q s)) →
       T (edgeOk t Begin) → T (edgeOk t (ModifyRead NbytesSet)) → T (edgeOk t Wait) → Fits q s t (Next (entryStep (q .call)))
   nexts h n l e f g =
       way (Next (entryStep (q .call))) (entry-taken q h) (entry (q .call) (λ (u : Step). T (edgeOk t u)) e f g)
       (n, l, entry (q .call) (λ (u : Step). T (plain u)) tt tt tt, entry (q .call) (λ (u : Step). T (not (inEvent u))) tt tt tt)
 
-  enters : T (has q move) → T (inEvent t) →
+  enters : T (takesGroup q move) → T (inEvent t) →
       T (edgeOk t Begin) → T (edgeOk t (ModifyRead NbytesSet)) → T (edgeOk t Wait) → Fits q s t (Enters (entryStep (q .call)))
   enters h i e f g =
       way (Enters (entryStep (q .call))) (entry-taken q h) (entry (q .call) (λ (u : Step). T (edgeOk t u)) e f g)
       (i, entry (q .call) (λ (u : Step). T (plain u)) tt tt tt)
 
-  clears : (n : Step → Then) → ((u : Step) → T (takes q u) → T (edgeOk t u) → T (plain u) → Fits q s t (n u)) →
-      T (has q events) → T (edgeOk t (ModifyRead SbcOff)) → T (edgeOk t EventClear) → Fits q s t (n (clearStep (q .call)))
-  unfolding hasIn
+  clears : (n : Step → Effect) → ((u : Step) → T (takes q u) → T (edgeOk t u) → T (plain u) → Fits q s t (n u)) →
+      T (takesGroup q events) → T (edgeOk t (ModifyRead SbcOff)) → T (edgeOk t EventClear) → Fits q s t (n (clearStep (q .call)))
+  unfolding groupTaken
   clears n f h e g =
       f (clearStep (q .call)) (clear (q .call) (λ (u : Step). T (takes q u)) (λ m. search logic) h)
       (clear (q .call) (λ (u : Step). T (edgeOk t u)) (λ _. e) g) (clear (q .call) (λ (u : Step). T (plain u)) (λ _. tt) tt)
 
-  goes-clear : T (has q events) → T (edgeOk t (ModifyRead SbcOff)) → T (edgeOk t EventClear) → Fits q s t (Goes (clearStep (q .call)))
+  goes-clear : T (takesGroup q events) → T (edgeOk t (ModifyRead SbcOff)) → T (edgeOk t EventClear) → Fits q s t (Goes (clearStep (q .call)))
   goes-clear = clears Goes goes
 
-  notes-clear : (o : Outcome) → T (has q events) → T (edgeOk t (ModifyRead SbcOff)) → T (edgeOk t EventClear) →
+  notes-clear : (o : Outcome) → T (takesGroup q events) → T (edgeOk t (ModifyRead SbcOff)) → T (edgeOk t EventClear) →
       Fits q s t (Notes o (clearStep (q .call)))
   notes-clear o = clears (Notes o) (λ u h e p. way (Notes o u) h e p)
 
@@ -215,16 +215,16 @@ Inside q s = s .piece < max 1 (length (piecesOf q))
 
 module _ (q : Request) (s : SavedCall) (a : ℕ) where
   -- so a piece that does not read has the steps of NACK
-  writes-nack : Inside q s → T (has q move) → T (not (readsIn q s)) → T (has q nack)
-  unfolding hasIn AllRead
+  writes-nack : Inside q s → T (takesGroup q move) → T (not (readsIn q s)) → T (takesGroup q nack)
+  unfolding groupTaken AllRead
   writes-nack p h r =
       let z : 0 < length (piecesOf q) = ltb→lt 0 (length (piecesOf q)) (move-some q h) in
       both (transaction (q .call)) (λ x. search logic) (λ n.
       let r′ = rw (all-read q n (s .piece) (omega arith)) at r in
       let w = or-else (receives (q .call)) _ (move-target q h n) r′ in search logic)
 
-  waits : (f : Flag) → Inside q s → T (has q move) → Flagged q s f → Fits q s Wait (waitAt (q .call) (viewOf q s) s a f)
-  unfolding hasIn
+  waits : (f : Flag) → Inside q s → T (takesGroup q move) → Flagged q s f → Fits q s Wait (waitAt (q .call) (viewOf q s) s a f)
+  unfolding groupTaken
   waits Rxne p w h = search table depth 16
   waits Txis p w h = search (table, writes-nack) depth 16
   waits Tc p w h = search table depth 16
@@ -233,9 +233,9 @@ module _ (q : Request) (s : SavedCall) (a : ℕ) where
   waits Never p w h = search (table, writes-nack) depth 16
 
   -- by the last premise it is no transaction, where a transaction takes no step of the group
-  row : (t : Step) → Inside q s → T (not (is t Ended)) → T (takes q t) →
-      T (has (asks q Transaction) (groupOf t) || not (transaction (q .call))) → Fits q s t (thenAt (q .call) (q .words) (viewOf q s) s a t)
-  unfolding hasIn call kinds manual
+  row : (t : Step) → Inside q s → T (not (sameStep t Ended)) → T (takes q t) →
+      T (takesGroup (asks q Transaction) (groupOf t) || not (transaction (q .call))) → Fits q s t (effectAt (q .call) (q .words) (viewOf q s) s a t)
+  unfolding groupTaken isCall isKind manual
   row Ended p h k o = absurd h
   row Begin p h k o = search table depth 16
   row StartStatus p h k o = search table depth 16
@@ -283,5 +283,5 @@ module _ (q : Request) (s : SavedCall) (a : ℕ) where
   row (ModifyWrite ReloadOn) p h k o = let e = and-r (manual (q .call)) (eventful (q .call)) k in search table depth 16
   row (ModifyWrite NbytesSet) p h k o = search table depth 16
 
-  pub fits : (t : Step) → Inside q s → T (not (is t Ended)) → T (takes q t) → Fits q s t (thenAt (q .call) (q .words) (viewOf q s) s a t)
+  pub fits : (t : Step) → Inside q s → T (not (sameStep t Ended)) → T (takes q t) → Fits q s t (effectAt (q .call) (q .words) (viewOf q s) s a t)
   fits t p h k = row t p h k (aside q (groupOf t) k)

@@ -13,7 +13,7 @@ use Rattle.calls.specs.Calls.{Request}
 use Rattle.calls.specs.Joined.{isFull, joinRun, thenRun}
 use Rattle.calls.specs.Refusals.{requestOf, checkOf, accepts}
 use Rattle.calls.specs.Run.{Entry, readEntry, writeEntry, byteOf, Run, stops, wrote, took, turnOf, advanceFrom, runOf}
-use Rattle.calls.specs.Steps.{accessOf, afterOf, is}
+use Rattle.calls.specs.Steps.{accessOf, afterOf, sameStep}
 use Rattle.calls.specs.declared.Access.{Access}
 use Rattle.calls.specs.declared.Access.the-variants.{Read, Take, Write, Nothing}
 use Rattle.calls.specs.declared.Call.{Call}
@@ -43,10 +43,10 @@ took-then e R a l go =
     both (isFull (R .report)) (λ h. rw (is-true (isFull (R .report)) h, suc-add)) (λ h. rw (is-false (isFull (R .report)) h))
 
 -- an ended call gives its outcome, over any log
-ended-over : (q : Request) (n : ℕ) (s : SavedCall) (b l : List ℕ) → T (is (s .step) Ended)
+ended-over : (q : Request) (n : ℕ) (s : SavedCall) (b l : List ℕ) → T (sameStep (s .step) Ended)
     → advanceFrom q n s b l ≡ stops (Over (s .outcome)) s b
 unfolding advanceFrom
-ended-over q zero s b l h = rw (is-true (is (s .step) Ended) h)
+ended-over q zero s b l h = rw (is-true (sameStep (s .step) Ended) h)
 ended-over q (suc n) s b l h = rw (no-access q b s h)
 
 module _ (q : Request) (n : ℕ) where
@@ -70,9 +70,9 @@ module _ (q : Request) (n : ℕ) where
   pieces : (m : ℕ) (s : SavedCall) (b l : List ℕ) → advanceFrom q (m + n) s b l ≡ then-n (advanceFrom q m s b l) l
   unfolding advanceFrom
   pieces zero s b l =
-      both (is (s .step) Ended)
-      (λ h. rw (is-true (is (s .step) Ended) h, zero-add) (ended-over q n s b l h))
-      (λ h. rw (is-false (is (s .step) Ended) h, zero-add, zero-add))
+      both (sameStep (s .step) Ended)
+      (λ h. rw (is-true (sameStep (s .step) Ended) h, zero-add) (ended-over q n s b l h))
+      (λ h. rw (is-false (sameStep (s .step) Ended) h, zero-add, zero-add))
   pieces (suc m) s b l = rw suc-add (pieces-turn m s b l (accessOf q b s) (pieces m))
 
 -- what an accepted advance leaves is accepted again, with the same description
@@ -156,9 +156,9 @@ module _ (q : Request) (n : ℕ) (ih : (s : SavedCall) (b l : List ℕ) → With
   within-turn l (Write r v) =
       let i = ih (afterOf q s 0) b l in
       record { entries = omega arith; used = i .used; buffer = i .buffer; full = λ f. ap suc (i .full f) }
-  within-turn [] (Read r) = within-stop (suc n) Waiting s b [] (λ f. cc)
+  within-turn [] (Read r) = within-stop (suc n) (Waiting r) s b [] (λ f. cc)
   within-turn (a ∷ l) (Read r) = within-read (readEntry r a) a l b refl
-  within-turn [] (Take i) = within-stop (suc n) Waiting s b [] (λ f. cc)
+  within-turn [] (Take i) = within-stop (suc n) (Waiting Rxdr) s b [] (λ f. cc)
   within-turn (a ∷ l) (Take i) = within-read (readEntry Rxdr a) a l (set b i (byteOf a)) (length-set b i (byteOf a))
 
 within-from : (q : Request) (n : ℕ) (s : SavedCall) (b l : List ℕ) → Within n b l (advanceFrom q n s b l)

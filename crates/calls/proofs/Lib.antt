@@ -13,6 +13,7 @@ pub mod Fit
 pub mod Cut
 pub mod Demand
 pub mod Joined
+pub mod Reached
 pub mod Ends
 pub mod Plain
 pub mod Restated

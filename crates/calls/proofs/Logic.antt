@@ -1,5 +1,5 @@
 -- The small laws of Boolean tests that the other proofs share. Assumes nothing.
-use mathlib.Core.Path.{_≡_, refl}
+use mathlib.Core.Path.{_≡_, refl, sym, ap, _∙_}
 use mathlib.Core.Bool.{Bool, true, false, cond, not, _&&_, _||_, Bool·beq}
 use lib.Dec.{T}
 
@@ -83,3 +83,7 @@ same true true h = refl
 same true false h = absurd h
 same false true h = absurd h
 same false false h = refl
+
+-- what an arm of a match answers: r is what f says of y, and the arm has found that x is y
+pub arm : {A B : Type 0} (f : A → B) (x y : A) (r : B) → x ≡ y → r ≡ f y → r ≡ f x
+arm f x y r e h = h ∙ ap f (sym e)

@@ -12,7 +12,7 @@ use lib.Seq.{drop-drop, ext-getD}
 use Rattle.fields.specs.Field.{place, bit, getOf, flagOf}
 use Rattle.calls.specs.Advances.{Advance, Meets, isRefusal, refused, Follows, none, but, then, made, joined, given, bufferAfter, savedAfter, answersIn}
 use Rattle.calls.specs.Bytes.{range, placesFrom, bytesAt, callerBytes, readPlaces}
-use Rattle.calls.specs.Calls.{Request, numberOf, call, kinds, transaction, manual, receives, transmits}
+use Rattle.calls.specs.Calls.{Request, callNumber, isCall, isKind, transaction, manual, receives, transmits}
 use Rattle.calls.specs.Pieces.{Piece, pieceOf, piecesFor, piecesOf}
 use Rattle.calls.specs.Refusals.{listed, total}
 use Rattle.calls.specs.Run.{Entry, wordsOf, Run, runOf, asFinal, isNackClear, putOutFrom, putOut, takenIn}
@@ -94,7 +94,7 @@ not-refused A h = by-report A (λ x. T (not (isRefusal x))) go
     go : (x : Report) → A .result .report ≡ x → T (not (isRefusal x))
     go (Over o) e = tt
     go Full e = tt
-    go Waiting e = tt
+    go (Waiting k) e = tt
     go (Refused r) e = absurd (h (r, e))
 
 pub refuses : (A : Advance) → T (refused A) → Refuses A
@@ -103,7 +103,7 @@ refuses A = by-report A (λ x. T (isRefusal x) → Refuses A) go
     go : (x : Report) → A .result .report ≡ x → T (isRefusal x) → Refuses A
     go (Over o) e h = absurd h
     go Full e h = absurd h
-    go Waiting e h = absurd h
+    go (Waiting k) e h = absurd h
     go (Refused r) e h = (r, e)
 
 meets : (A : Advance) (s : SavedCall) → Defined A s → Meets A s
@@ -181,7 +181,7 @@ sent-is es = go noEntry noEntry es
 -- by document 01's numbers
 abbrev pub numbered : List ℕ → Call → Bool
 numbered [] c = false
-numbered (n ∷ ns) c = eqb (numberOf c) n || numbered ns c
+numbered (n ∷ ns) c = eqb (callNumber c) n || numbered ns c
 
 abbrev pub isTransaction : Call → Bool
 isTransaction c = numbered (7 ∷ []) c
@@ -222,16 +222,16 @@ or-1 true = refl
 or-1 false = refl
 
 pub transaction-is : (c : Call) → transaction c ≡ isTransaction c
-unfolding call
-transaction-is c = or-1 (eqb (numberOf c) 7)
+unfolding isCall
+transaction-is c = or-1 (eqb (callNumber c) 7)
 
 pub sender-is : (c : Call) → transmits c ≡ isSender c
-unfolding kinds call
-sender-is c = or-4 (eqb (numberOf c) 10) (eqb (numberOf c) 26) (eqb (numberOf c) 12) (eqb (numberOf c) 28)
+unfolding isKind isCall
+sender-is c = or-4 (eqb (callNumber c) 10) (eqb (callNumber c) 26) (eqb (callNumber c) 12) (eqb (callNumber c) 28)
 
 pub receiver-is : (c : Call) → receives c ≡ isReceiver c
-unfolding kinds call
-receiver-is c = or-4 (eqb (numberOf c) 9) (eqb (numberOf c) 25) (eqb (numberOf c) 11) (eqb (numberOf c) 27)
+unfolding isKind isCall
+receiver-is c = or-4 (eqb (callNumber c) 9) (eqb (callNumber c) 25) (eqb (callNumber c) 11) (eqb (callNumber c) 27)
 
 -- what a computed test finds of each call of the list holds of any
 of-each : (f g : Call → Bool) → T (all (λ c. g c || not (f c)) listed) → (c : Call) → T (f c) → T (g c)

@@ -15,7 +15,8 @@ use Rattle.calls.specs.Demand.{left, Kept, Demand3}
 use Rattle.calls.specs.Refusals.{total, requestOf, checkOf}
 use Rattle.calls.specs.Run.{Entry, wordsOf, Uncut, uncutOf, noCall, begunOf, putOut, takenIn}
 use Rattle.calls.specs.Steps.{accessOf, beginOf}
-use Rattle.calls.specs.declared.Access.the-variants as access
+use Rattle.calls.specs.Next.{nextOf}
+use Rattle.calls.specs.declared.Next.the-variants as next
 use Rattle.calls.specs.declared.Call.{Call}
 use Rattle.calls.specs.declared.Description.{Description}
 use Rattle.calls.specs.declared.Outcome.{Outcome}
@@ -153,7 +154,7 @@ module _ (c : Call) (d : Description) (ops b : List ℕ) (As : List Advance) (s�
         go : Came q s′ b′ A → A .result .report ≡ Over (s′ .outcome)
         go (over h r) = r
         go (full h w r) = absurd (rw e at h)
-        go (waiting h w x u r) = absurd (rw e at h)
+        go (waiting k h w x u r) = absurd (rw e at h)
 
     pub ended-when-over : (o : Outcome) → A .result .report ≡ Over o → (s′ .step ≡ Ended) × (s′ .outcome ≡ o)
     ended-when-over o f = go came
@@ -161,7 +162,7 @@ module _ (c : Call) (d : Description) (ops b : List ℕ) (As : List Advance) (s�
         go : Came q s′ b′ A → (s′ .step ≡ Ended) × (s′ .outcome ≡ o)
         go (over h r) = (is-eq (s′ .step) Ended h, cc)
         go (full h w r) = let z : _≡_ {A = ℕ} 0 1 = cc in absurd (omega arith)
-        go (waiting h w x u r) = let z : _≡_ {A = ℕ} 0 1 = cc in absurd (omega arith)
+        go (waiting k h w x u r) = let z : _≡_ {A = ℕ} 0 1 = cc in absurd (omega arith)
 
     -- `full`, where the next access finds no place left
     pub no-place-when-full : A .result .report ≡ Full → (s′ .step ≢ Ended) × (A .result .written ≡ length (A .log) / 2)
@@ -170,20 +171,20 @@ module _ (c : Call) (d : Description) (ops b : List ℕ) (As : List Advance) (s�
         go : Came q s′ b′ A → (s′ .step ≢ Ended) × (A .result .written ≡ length (A .log) / 2)
         go (over h r) = let z : _≡_ {A = ℕ} 0 1 = cc in absurd (omega arith)
         go (full h w r) = (λ e. rw e at h, w)
-        go (waiting h w x u r) = let z : _≡_ {A = ℕ} 0 1 = cc in absurd (omega arith)
+        go (waiting k h w x u r) = let z : _≡_ {A = ℕ} 0 1 = cc in absurd (omega arith)
 
-    -- `waiting`, where it is a read that has a place, and no answer left
-    pub no-answer-when-waiting : A .result .report ≡ Waiting →
+    -- `waiting`, where it is a read of the named register that has a place, and no answer left
+    pub no-answer-when-waiting : (r : Register) → A .result .report ≡ Waiting r →
         (s′ .step ≢ Ended) × (A .result .written < length (A .log) / 2) × (A .result .used ≡ length (A .answers))
-        × ((r : Register) (v : ℕ) → accessOf q b′ s′ ≢ access.Write r v) × (accessOf q b′ s′ ≢ access.Nothing)
-    no-answer-when-waiting f = go came
+        × (nextOf (accessOf q b′ s′) ≡ next.Read r)
+    no-answer-when-waiting r f = go came
       where
         go : Came q s′ b′ A →
             (s′ .step ≢ Ended) × (A .result .written < length (A .log) / 2) × (A .result .used ≡ length (A .answers))
-            × ((r : Register) (v : ℕ) → accessOf q b′ s′ ≢ access.Write r v) × (accessOf q b′ s′ ≢ access.Nothing)
+            × (nextOf (accessOf q b′ s′) ≡ next.Read r)
         go (over h r) = let z : _≡_ {A = ℕ} 0 1 = cc in absurd (omega arith)
         go (full h w r) = let z : _≡_ {A = ℕ} 0 1 = cc in absurd (omega arith)
-        go (waiting h w x u r) = (λ e. rw e at h, w, u, λ k v e. rw e at x, λ e. rw e at x)
+        go (waiting k h w x u g) = (λ e. rw e at h, w, u, cc)
 
   -- ---- bytes out
 

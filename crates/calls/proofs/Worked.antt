@@ -3,13 +3,14 @@
 use Prim.Native.Nat.{ℕ, _/_}
 use mathlib.Core.Path.{_≡_, refl}
 use mathlib.Core.List.{List, [], _∷_}
+use Rattle.registers.specs.declared.Register.the-variants.{Isr}
 use Rattle.fields.specs.Field.{bitsAt, withBits, getOf, putOf}
 use Rattle.calls.specs.Advances.{Advance, Follows, none, but, then, made, joined, given, bufferAfter, savedAfter}
-use Rattle.calls.specs.Calls.{Request, call, kinds, manual}
+use Rattle.calls.specs.Calls.{Request, isCall, isKind, manual}
 use Rattle.calls.specs.Pieces.{piecesFor}
-use Rattle.calls.specs.Refusals.{requestOf, lookupOf, verdictOf, checkOf, hasIn, accepts}
+use Rattle.calls.specs.Refusals.{requestOf, lookupOf, verdictOf, checkOf, groupTaken, accepts}
 use Rattle.calls.specs.Run.{Uncut, wordsOf, uncutOf, begunOf, advanceFrom, runOf, putOut}
-use Rattle.calls.specs.Steps.{accessOf, afterOf, beginOf}
+use Rattle.calls.specs.Steps.{accessOf, afterOf, beginOf, freshAt, savedAt}
 use Rattle.calls.specs.Words.{cr2Of, alterOf}
 use Rattle.calls.specs.declared.Advanced.{Advanced}
 use Rattle.calls.specs.declared.Call.the-variants.{Transaction}
@@ -34,7 +35,7 @@ b = 0x12 ∷ 0x34 ∷ []
 
 -- the call after n accesses
 abbrev after : ℕ → ℕ → Step → SavedCall
-after n byte t = record { call = 7; piece = 0; byte = byte; word = 0; accesses = n; outcome = Done 0; step = t }
+after n byte t = savedAt (freshAt 7 t) t 0 byte 0 (Done 0) n
 
 abbrev gave : ℕ → ℕ → SavedCall → Report → Advanced
 gave used written s r = record { used = used; written = written; saved = s; report = r }
@@ -86,7 +87,7 @@ cut-again = record {
   buffer = b;
   answers = 0x020200A0 ∷ 3 ∷ [];
   log = 0 ∷ 0 ∷ 0 ∷ 0 ∷ 0 ∷ 0 ∷ 0 ∷ 0 ∷ [];
-  result = gave 2 3 (after 5 1 Wait) Waiting;
+  result = gave 2 3 (after 5 1 Wait) (Waiting Isr);
   bufferLeft = b;
   logLeft = 0x04 ∷ 0x020200A0 ∷ 0x18 ∷ 3 ∷ 0x128 ∷ 0x12 ∷ 0 ∷ 0 ∷ [];
 }
@@ -108,7 +109,7 @@ abbrev pub advances : List Advance
 advances = cut ∷ other-buffer ∷ other-call ∷ cut-again ∷ end ∷ []
 
 pub worked : Follows d ops advances (begunOf d ops 2 .saved) b
-unfolding getOf bitsAt putOf withBits call kinds manual piecesFor lookupOf verdictOf checkOf hasIn accepts begunOf advanceFrom runOf cr2Of alterOf accessOf afterOf beginOf
+unfolding getOf bitsAt putOf withBits isCall isKind manual piecesFor lookupOf verdictOf checkOf groupTaken accepts begunOf advanceFrom runOf cr2Of alterOf accessOf afterOf beginOf
 worked =
     then refl refl refl refl tt
     (but refl tt
@@ -131,5 +132,5 @@ record Joined : Type 0 where
   ended : savedAfter advances (begunOf d ops 2 .saved) ≡ after 9 2 Ended
 
 joined-is-whole : Joined
-unfolding getOf bitsAt putOf withBits call kinds manual piecesFor lookupOf verdictOf checkOf begunOf uncutOf cr2Of accessOf afterOf beginOf
+unfolding getOf bitsAt putOf withBits isCall isKind manual piecesFor lookupOf verdictOf checkOf begunOf uncutOf cr2Of accessOf afterOf beginOf
 joined-is-whole = record { accesses = refl; answers = refl; words = refl; buffer = refl; bytes = refl; ended = refl }

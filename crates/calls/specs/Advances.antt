@@ -6,14 +6,15 @@ use mathlib.Core.Bool.{Bool, true, false, cond, not}
 use mathlib.Core.List.{List, [], _∷_, _++_}
 use lib.Dec.{T, ltb}
 use lib.ListN.{length, take}
+use Rattle.registers.specs.declared.Register.{Register}
 use Rattle.calls.specs.Calls.{Request}
+use Rattle.calls.specs.Next.{nextOf}
 use Rattle.calls.specs.Refusals.{requestOf}
 use Rattle.calls.specs.Run.{Entry, wordsOf, uncutOf, noCall, asFinal, finalOf}
-use Rattle.calls.specs.Steps.{accessOf, beginOf, is}
-use Rattle.calls.specs.declared.Access.{Access}
-use Rattle.calls.specs.declared.Access.the-variants.{Read, Take, Write, Nothing}
+use Rattle.calls.specs.Steps.{accessOf, beginOf, sameStep}
 use Rattle.calls.specs.declared.Advanced.{Advanced}
 use Rattle.calls.specs.declared.Description.{Description}
+use Rattle.calls.specs.declared.Next.the-variants as next
 use Rattle.calls.specs.declared.Report.{Report}
 use Rattle.calls.specs.declared.Report.the-variants.{Over, Full, Waiting, Refused}
 use Rattle.calls.specs.declared.SavedCall.{SavedCall}
@@ -41,7 +42,7 @@ Meets A s =
 abbrev pub isRefusal : Report → Bool
 isRefusal (Over o) = false
 isRefusal Full = false
-isRefusal Waiting = false
+isRefusal (Waiting r) = false
 isRefusal (Refused r) = true
 
 abbrev pub refused : Advance → Bool
@@ -93,18 +94,12 @@ lastAccepted [] = nobody
 lastAccepted (A ∷ As) = orElse (lastAccepted As) (refused A) A
 
 -- Why an accepted advance came back, by the call s and the buffer b after it: the call is over, with its outcome; or the
--- next access found no place left; or it is a read that had a place and no answer left.
-abbrev pub isRead : Access → Bool
-isRead (Read r) = true
-isRead (Take i) = true
-isRead (Write r v) = false
-isRead Nothing = false
-
+-- next access found no place left; or it is a read, of the register that the report names, that had a place and no answer left.
 pub data Came (q : Request) (s : SavedCall) (b : List ℕ) (A : Advance) : Type 0 where
-  over : T (is (s .step) Ended) → A .result .report ≡ Over (s .outcome) → Came q s b A
-  full : T (not (is (s .step) Ended)) → A .result .written ≡ length (A .log) / 2 → A .result .report ≡ Full → Came q s b A
-  waiting : T (not (is (s .step) Ended)) → A .result .written < length (A .log) / 2 → T (isRead (accessOf q b s)) →
-      A .result .used ≡ length (A .answers) → A .result .report ≡ Waiting → Came q s b A
+  over : T (sameStep (s .step) Ended) → A .result .report ≡ Over (s .outcome) → Came q s b A
+  full : T (not (sameStep (s .step) Ended)) → A .result .written ≡ length (A .log) / 2 → A .result .report ≡ Full → Came q s b A
+  waiting : (r : Register) → T (not (sameStep (s .step) Ended)) → A .result .written < length (A .log) / 2 →
+      nextOf (accessOf q b s) ≡ next.Read r → A .result .used ≡ length (A .answers) → A .result .report ≡ Waiting r → Came q s b A
 
 abbrev pub LastCame : Request → SavedCall → List ℕ → Last → Type 0
 LastCame q s b nobody = Unit {0}
@@ -144,7 +139,7 @@ pub record OneRun (q : Request) (b : List ℕ) (As : List Advance) : Type 0 wher
       uncutOf q (made As) (beginOf q) b (given As ++ rest)
       ≡ record { saved = savedAfter As (beginOf q); buffer = bufferAfter As b; log = log }
   -- an ended call stays as it is, whatever more accesses and answers it is given
-  pub stays : T (is (savedAfter As (beginOf q) .step) Ended) → (m : ℕ) (rest : List ℕ) →
+  pub stays : T (sameStep (savedAfter As (beginOf q) .step) Ended) → (m : ℕ) (rest : List ℕ) →
       uncutOf q (made As + m) (beginOf q) b (given As ++ rest)
       ≡ record { saved = savedAfter As (beginOf q); buffer = bufferAfter As b; log = log }
   -- what the last accepted advance reported

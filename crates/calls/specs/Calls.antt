@@ -23,22 +23,22 @@ abbrev pub byAck : ℕ → Ack → ℕ
 byAck n AutoAck = n
 byAck n ManualAck = n + 16
 
-abbrev pub numberOf : Call → ℕ
-numberOf New = 1
-numberOf TargetNew = 2
-numberOf ConfigureTargetAddresses = 3
-numberOf EnableTargetEvent = 4
-numberOf DisableTargetEvent = 5
-numberOf Reset = 6
-numberOf Transaction = 7
-numberOf (WaitForEvent a) = byAck 8 a
-numberOf (Read a) = byAck 9 a
-numberOf (Write a) = byAck 10 a
-numberOf (WaitForTargetRead a) = byAck 11 a
-numberOf (WaitForTargetWrite a) = byAck 12 a
-numberOf (WaitForStop a) = byAck 13 a
-numberOf AckTransfer = 14
-numberOf NackTransfer = 15
+abbrev pub callNumber : Call → ℕ
+callNumber New = 1
+callNumber TargetNew = 2
+callNumber ConfigureTargetAddresses = 3
+callNumber EnableTargetEvent = 4
+callNumber DisableTargetEvent = 5
+callNumber Reset = 6
+callNumber Transaction = 7
+callNumber (WaitForEvent a) = byAck 8 a
+callNumber (Read a) = byAck 9 a
+callNumber (Write a) = byAck 10 a
+callNumber (WaitForTargetRead a) = byAck 11 a
+callNumber (WaitForTargetWrite a) = byAck 12 a
+callNumber (WaitForStop a) = byAck 13 a
+callNumber AckTransfer = 14
+callNumber NackTransfer = 15
 
 -- The target's configuration, and what its setters change.
 abbrev pub configOf : ℕ → TargetConfig
@@ -56,29 +56,29 @@ withSecondary address t = record { own = t .own; secondary = Secondary address; 
 abbrev pub withMask : ℕ → TargetConfig → TargetConfig
 withMask bits t = record { own = t .own; secondary = t .secondary; mask = Masked bits; mode = t .mode }
 
--- by its number
-unfoldable pub call : Call → ℕ → Bool
-call c n = eqb (numberOf c) n
+-- it is that call
+unfoldable pub isCall : Call → Call → Bool
+isCall c x = eqb (callNumber c) (callNumber x)
 
--- by its number in either acknowledge mode
-unfoldable pub kinds : Call → ℕ → Bool
-kinds c n = call c n || call c (n + 16)
+-- it is of that kind, in either acknowledge mode
+unfoldable pub isKind : Call → (Ack → Call) → Bool
+isKind c kind = isCall c (kind AutoAck) || isCall c (kind ManualAck)
 
 abbrev pub transaction : Call → Bool
-transaction c = call c 7
+transaction c = isCall c Transaction
 
 unfoldable pub manual : Call → Bool
-manual c = leb 16 (numberOf c)
+manual c = leb 16 (callNumber c)
 
 -- the target calls that fill the buffer, those that put it out, and those that await an event first
 abbrev pub receives : Call → Bool
-receives c = kinds c 9 || kinds c 11
+receives c = isKind c Read || isKind c WaitForTargetRead
 
 abbrev pub transmits : Call → Bool
-transmits c = kinds c 10 || kinds c 12
+transmits c = isKind c Write || isKind c WaitForTargetWrite
 
 abbrev pub eventful : Call → Bool
-eventful c = kinds c 8 || (kinds c 11 || (kinds c 12 || kinds c 13))
+eventful c = isKind c WaitForEvent || (isKind c WaitForTargetRead || (isKind c WaitForTargetWrite || isKind c WaitForStop))
 
 -- what a description may have or lack: a configuration, and in it a secondary address
 abbrev pub isConfigured : Configuration → Bool

@@ -3,6 +3,7 @@ pub mod Outcomes
 pub mod Pieces
 pub mod Words
 pub mod Steps
+pub mod Next
 pub mod Refusals
 pub mod Run
 pub mod Joined

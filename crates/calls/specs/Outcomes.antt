@@ -1,6 +1,7 @@
 -- The outcomes and refusals with document 01's numbers and values. Assumes nothing.
-use Prim.Native.Nat.{ℕ}
+use Prim.Native.Nat.{ℕ, _+_}
 use mathlib.Core.Bool.{Bool, true, false, cond}
+use Rattle.registers.specs.Map.{offsetOf}
 use Rattle.calls.specs.declared.Outcome.{Outcome}
 use Rattle.calls.specs.declared.Outcome.the-variants.{Done, Bus, Arbitration, Nack, Stopped, ExpectedWrite, ExpectedRead, EventRead, EventWrite, EventStop}
 use Rattle.calls.specs.declared.Refusal.{Refusal}
@@ -43,17 +44,33 @@ outcomeValue (EventWrite n) = n
 outcomeValue EventStop = 0
 
 -- what an advance reports: `waiting` and `refused` follow in that list; `full` is no outcome word, and comes last
+abbrev pub waitingNumber : ℕ
+waitingNumber = 10
+
+abbrev pub refusedNumber : ℕ
+refusedNumber = waitingNumber + 1
+
+abbrev pub fullNumber : ℕ
+fullNumber = refusedNumber + 1
+
 abbrev pub reportNumber : Report → ℕ
 reportNumber (Over o) = outcomeNumber o
-reportNumber Waiting = 10
-reportNumber (Refused r) = 11
-reportNumber Full = 12
+reportNumber (Waiting r) = waitingNumber
+reportNumber (Refused r) = refusedNumber
+reportNumber Full = fullNumber
 
 abbrev pub reportValue : Report → ℕ
 reportValue (Over o) = outcomeValue o
-reportValue Waiting = 0
+reportValue (Waiting r) = 0
 reportValue (Refused r) = refusalNumber r
 reportValue Full = 0
+
+-- and for `waiting` the offset of the register whose word is awaited
+abbrev pub awaitedOf : Report → ℕ
+awaitedOf (Over o) = 0
+awaitedOf (Waiting r) = offsetOf r
+awaitedOf (Refused r) = 0
+awaitedOf Full = 0
 
 abbrev pub isDone : Outcome → Bool
 isDone (Done n) = true

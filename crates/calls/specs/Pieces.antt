@@ -62,12 +62,12 @@ viewAt ps i =
       last = leb (length ps) (i + 1);
       same = Bool·beq (pieceAt ps i .reads) (pieceAt ps (i + 1) .reads);
       reload = not (eqb i 0) && Bool·beq (pieceAt ps i .reads) (pieceAt ps (i - 1) .reads);
-      some = ltb 0 (length ps);
+      nonempty = ltb 0 (length ps);
     }
 
 abbrev pub viewOf : Request → SavedCall → View
 viewOf q s = viewAt (piecesOf q) (s .piece)
 
 -- A byte is there: one of the buffer's or, past the last byte that a target puts out, a filling zero.
-abbrev pub there : Call → View → SavedCall → Bool
-there c v s = ltb (s .byte) (v .size) || (transmits c && v .last)
+abbrev pub byteThere : Call → View → SavedCall → Bool
+byteThere c v s = ltb (s .byte) (v .size) || (transmits c && v .last)

@@ -6,9 +6,9 @@ use mathlib.Core.List.{List, [], _∷_}
 use lib.Dec.{eqb, ltb, leb}
 use lib.ListN.{length}
 use Rattle.fields.specs.Field.{place, getOf}
-use Rattle.calls.specs.Calls.{Request, numberOf, call, transaction, manual, receives, transmits, eventful, isConfigured, hasSecondary}
-use Rattle.calls.specs.Pieces.{operation-length, piecesOf, viewAt, viewOf, there}
-use Rattle.calls.specs.Steps.{is}
+use Rattle.calls.specs.Calls.{Request, callNumber, isCall, transaction, manual, receives, transmits, eventful, isConfigured, hasSecondary}
+use Rattle.calls.specs.Pieces.{operation-length, piecesOf, viewAt, viewOf, byteThere}
+use Rattle.calls.specs.Steps.{sameStep}
 use Rattle.calls.specs.declared.Ack.the-variants.{AutoAck, ManualAck}
 use Rattle.calls.specs.declared.AddressMode.{AddressMode}
 use Rattle.calls.specs.declared.AddressMode.the-variants.{AddressMode7bit, AddressMode10bit}
@@ -43,7 +43,7 @@ listed =
 
 abbrev pub lookupIn : List Call → ℕ → Lookup
 lookupIn [] n = Unlisted
-lookupIn (c ∷ cs) n = cond (eqb n (numberOf c)) (Listed c) (lookupIn cs n)
+lookupIn (c ∷ cs) n = cond (eqb n (callNumber c)) (Listed c) (lookupIn cs n)
 
 unfoldable pub lookupOf : ℕ → Lookup
 lookupOf n = lookupIn listed n
@@ -51,10 +51,10 @@ lookupOf n = lookupIn listed n
 -- 12, no such call: the number is not listed, calls 4 and 5 name none of the three listen kinds, or 2 and 3 have no
 -- configuration
 abbrev pub noSuchListenKind : Call → Description → Bool
-noSuchListenKind c d = (call c 4 || call c 5) && ltb 2 (d .listen)
+noSuchListenKind c d = (isCall c EnableTargetEvent || isCall c DisableTargetEvent) && ltb 2 (d .listen)
 
 abbrev pub noConfiguration : Call → Description → Bool
-noConfiguration c d = (call c 2 || call c 3) && not (isConfigured (d .config))
+noConfiguration c d = (isCall c TargetNew || isCall c ConfigureTargetAddresses) && not (isConfigured (d .config))
 
 abbrev pub noSuchCall : Call → Description → Bool
 noSuchCall c d = noSuchListenKind c d || noConfiguration c d
@@ -82,7 +82,7 @@ configWide (Configured t) = tooWide (t .mode) (t .own) || (secondaryWide (t .sec
 abbrev pub addressWide : Call → Description → Bool
 addressWide c d =
     (transaction c && tooWide (d .mode) (d .address))
-    || ((call c 1 || (call c 2 || call c 3)) && configWide (d .config))
+    || ((isCall c New || (isCall c TargetNew || isCall c ConfigureTargetAddresses)) && configWide (d .config))
 
 -- 10, list: more than 64 operations, a word with bits that mean nothing, or lengths that do not make up the buffer
 abbrev pub lengthOf : ℕ → ℕ
@@ -111,7 +111,7 @@ operationLong c ops = transaction c && anyOf tooLong ops
 
 -- 11, buffer: an AutoAck transfer without a byte to move, or more bytes than sixteen bits count
 abbrev pub bufferWrong : Call → ℕ → Bool
-bufferWrong c n = ((call c 9 || (call c 10 || (call c 11 || call c 12))) && eqb n 0) || ltb 65535 n
+bufferWrong c n = (((receives c || transmits c) && not (manual c)) && eqb n 0) || ltb 65535 n
 
 unfoldable pub verdictOf : Request → Verdict
 verdictOf q =
@@ -184,42 +184,42 @@ groupOf (ModifyRead m) = modifyGroup m
 groupOf (ModifyWrite m) = modifyGroup m
 
 -- which groups a call takes; a call with no piece takes no step that moves bytes
-unfoldable pub hasIn : Call → Description → Bool → Group → Bool
-hasIn c d some any = true
-hasIn c d some starts = transaction c && some
-hasIn c d some move = (transaction c || (receives c || transmits c)) && some
-hasIn c d some stop = eventful c || (transaction c && some)
-hasIn c d some errors = eventful c || ((transaction c || (receives c || transmits c)) && some)
-hasIn c d some nack = (transaction c || transmits c) && some
-hasIn c d some timing = call c 1 || call c 2
-hasIn c d some own = call c 3 || ((call c 1 || call c 2) && isConfigured (d .config))
-hasIn c d some second = (call c 1 || (call c 2 || call c 3)) && hasSecondary (d .config)
-hasIn c d some enable = call c 1
-hasIn c d some reset = call c 6
-hasIn c d some events = eventful c
-hasIn c d some blocks = (manual c && (receives c || transmits c)) && some
-hasIn c d some peOff = call c 1 || (call c 2 || call c 6)
-hasIn c d some peOn = call c 2 || call c 6
-hasIn c d some listen = call c 4 || call c 5
-hasIn c d some nackSet = call c 15 || ((receives c && not (manual c)) && some)
-hasIn c d some reloadOff = call c 14 || call c 15
-hasIn c d some manualEvents = manual c && eventful c
+unfoldable pub groupTaken : Call → Description → Bool → Group → Bool
+groupTaken c d nonempty any = true
+groupTaken c d nonempty starts = transaction c && nonempty
+groupTaken c d nonempty move = (transaction c || (receives c || transmits c)) && nonempty
+groupTaken c d nonempty stop = eventful c || (transaction c && nonempty)
+groupTaken c d nonempty errors = eventful c || ((transaction c || (receives c || transmits c)) && nonempty)
+groupTaken c d nonempty nack = (transaction c || transmits c) && nonempty
+groupTaken c d nonempty timing = isCall c New || isCall c TargetNew
+groupTaken c d nonempty own = isCall c ConfigureTargetAddresses || ((isCall c New || isCall c TargetNew) && isConfigured (d .config))
+groupTaken c d nonempty second = (isCall c New || (isCall c TargetNew || isCall c ConfigureTargetAddresses)) && hasSecondary (d .config)
+groupTaken c d nonempty enable = isCall c New
+groupTaken c d nonempty reset = isCall c Reset
+groupTaken c d nonempty events = eventful c
+groupTaken c d nonempty blocks = (manual c && (receives c || transmits c)) && nonempty
+groupTaken c d nonempty peOff = isCall c New || (isCall c TargetNew || isCall c Reset)
+groupTaken c d nonempty peOn = isCall c TargetNew || isCall c Reset
+groupTaken c d nonempty listen = isCall c EnableTargetEvent || isCall c DisableTargetEvent
+groupTaken c d nonempty nackSet = isCall c NackTransfer || ((receives c && not (manual c)) && nonempty)
+groupTaken c d nonempty reloadOff = isCall c AckTransfer || isCall c NackTransfer
+groupTaken c d nonempty manualEvents = manual c && eventful c
 
 -- the call has a piece
-abbrev pub some : Request → Bool
-some q = viewAt (piecesOf q) 0 .some
+abbrev pub hasPieces : Request → Bool
+hasPieces q = viewAt (piecesOf q) 0 .nonempty
 
-abbrev pub has : Request → Group → Bool
-has q g = hasIn (q .call) (q .words) (some q) g
+abbrev pub takesGroup : Request → Group → Bool
+takesGroup q g = groupTaken (q .call) (q .words) (hasPieces q) g
 
 abbrev pub takes : Request → Step → Bool
-takes q t = has q (groupOf t)
+takes q t = takesGroup q (groupOf t)
 
 unfoldable pub accepts : Request → SavedCall → Bool
 accepts q s =
-    eqb (s .call) (numberOf (q .call)) &&
-    (is (s .step) Ended ||
+    eqb (s .call) (callNumber (q .call)) &&
+    (sameStep (s .step) Ended ||
     (takes q (s .step) &&
     (ltb (s .piece) (max 1 (length (piecesOf q))) &&
     (leb (s .byte) (viewOf q s .size + 1) &&
-    (not (is (s .step) Byte) || there (q .call) (viewOf q s) s)))))
+    (not (sameStep (s .step) Byte) || byteThere (q .call) (viewOf q s) s)))))

@@ -1,16 +1,17 @@
 -- A call that runs: begin, the run that nothing cuts, and one advance (document 01, "A call, from its entry").
 -- Assumes nothing.
-use Prim.Native.Nat.{ℕ, zero, suc, _+_, _/_, _%_}
+use Prim.Native.Nat.{ℕ, zero, suc, _+_, _/_, _%_, _^_}
 use mathlib.Core.Bool.{Bool, false, cond, not, _&&_}
 use mathlib.Core.List.{List, [], _∷_, _++_}
 use lib.Dec.{eqb}
 use lib.ListN.{length, drop, set}
 use Rattle.registers.specs.Map.{offsetOf}
+use Rattle.registers.specs.Places.{ICR-NACKCF}
 use Rattle.registers.specs.declared.Register.{Register}
-use Rattle.registers.specs.declared.Register.the-variants.{Rxdr}
+use Rattle.registers.specs.declared.Register.the-variants.{Icr, Rxdr, Txdr}
 use Rattle.calls.specs.Calls.{Request}
 use Rattle.calls.specs.Refusals.{requestOf, checkOf, accepts}
-use Rattle.calls.specs.Steps.{accessOf, afterOf, beginOf, is}
+use Rattle.calls.specs.Steps.{accessOf, afterOf, beginOf, sameStep, freshAt}
 use Rattle.calls.specs.declared.Access.{Access}
 use Rattle.calls.specs.declared.Access.the-variants.{Read, Take, Write, Nothing}
 use Rattle.calls.specs.declared.Advanced.{Advanced}
@@ -33,8 +34,11 @@ pub record Entry : Type 0 where
 abbrev pub readEntry : Register → ℕ → Entry
 readEntry r a = record { code = offsetOf r; value = a }
 
+abbrev pub writeCode : Register → ℕ
+writeCode r = offsetOf r + 0x100
+
 abbrev pub writeEntry : Register → ℕ → Entry
-writeEntry r v = record { code = offsetOf r + 0x100; value = v }
+writeEntry r v = record { code = writeCode r; value = v }
 
 -- two words each
 abbrev pub wordsOf : List Entry → List ℕ
@@ -72,7 +76,7 @@ uncutOf q (suc k) s b l = uncutTurn (uncutOf q k) q s b l (accessOf q b s)
 
 -- ---- Begin. What a refused one hands out has number 0, which no call has.
 abbrev pub noCall : SavedCall
-noCall = record { call = 0; piece = 0; byte = 0; word = 0; accesses = 0; outcome = Done 0; step = Ended }
+noCall = freshAt 0 Ended
 
 abbrev pub begunBy : Verdict → Description → List ℕ → ℕ → Begun
 begunBy (Accepted c) d ops n = record { saved = beginOf (requestOf c d ops n); verdict = Accepted c }
@@ -102,13 +106,13 @@ took e R = record { report = R .report; saved = R .saved; buffer = R .buffer; us
 abbrev pub turnOf : (SavedCall → List ℕ → List ℕ → Run) → Request → SavedCall → List ℕ → List ℕ → Access → Run
 turnOf go q s b l Nothing = stops (Over (s .outcome)) s b
 turnOf go q s b l (Write r v) = wrote (writeEntry r v) (go (afterOf q s 0) b l)
-turnOf go q s b [] (Read r) = stops Waiting s b
+turnOf go q s b [] (Read r) = stops (Waiting r) s b
 turnOf go q s b (a ∷ l) (Read r) = took (readEntry r a) (go (afterOf q s a) b l)
-turnOf go q s b [] (Take i) = stops Waiting s b
+turnOf go q s b [] (Take i) = stops (Waiting Rxdr) s b
 turnOf go q s b (a ∷ l) (Take i) = took (readEntry Rxdr a) (go (afterOf q s a) (set b i (byteOf a)) l)
 
 unfoldable pub advanceFrom : Request → ℕ → SavedCall → List ℕ → List ℕ → Run
-advanceFrom q zero s b l = stops (cond (is (s .step) Ended) (Over (s .outcome)) Full) s b
+advanceFrom q zero s b l = stops (cond (sameStep (s .step) Ended) (Over (s .outcome)) Full) s b
 advanceFrom q (suc n) s b l = turnOf (advanceFrom q n) q s b l (accessOf q b s)
 
 -- The description is looked at as begin looks at it, then row 13. A refusal changes nothing.
@@ -145,10 +149,10 @@ asFinal a b log = record { advanced = a; buffer = b; log = log }
 -- ---- The bytes of a log. A write to TXDR puts a byte out, unless it is the flush after a NACK, which comes two entries
 -- after NACKCF was written to ICR. `two` and `one` say whether that was written two entries ago, and one.
 abbrev pub isNackClear : Entry → Bool
-isNackClear e = eqb (e .code) 0x11C && eqb (e .value) 0x10
+isNackClear e = eqb (e .code) (writeCode Icr) && eqb (e .value) (2 ^ ICR-NACKCF .at)
 
 abbrev pub outOf : Bool → Entry → List ℕ
-outOf two e = cond (eqb (e .code) 0x128 && not two) (e .value ∷ []) []
+outOf two e = cond (eqb (e .code) (writeCode Txdr) && not two) (e .value ∷ []) []
 
 abbrev pub putOutFrom : Bool → Bool → List Entry → List ℕ
 putOutFrom two one [] = []
@@ -159,7 +163,7 @@ putOut es = putOutFrom false false es
 
 -- taken in are the low eight bits of its RXDR reads
 abbrev pub inOf : Entry → List ℕ
-inOf e = cond (eqb (e .code) 0x24) (byteOf (e .value) ∷ []) []
+inOf e = cond (eqb (e .code) (offsetOf Rxdr)) (byteOf (e .value) ∷ []) []
 
 abbrev pub takenIn : List Entry → List ℕ
 takenIn [] = []

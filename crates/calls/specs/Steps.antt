@@ -2,16 +2,16 @@
 -- Sections of document 01 are named at the tables; registers, fields and flags are RM0492's. Assumes nothing.
 use Prim.Native.Nat.{ℕ, _+_, _-_, _*_, min}
 use mathlib.Core.Bool.{Bool, true, false, cond, not, _&&_, _||_}
-use mathlib.Core.List.{List}
+use mathlib.Core.List.{List, [], _∷_, _++_, map}
 use lib.Dec.{eqb, ltb}
 use lib.ListN.{getD}
 use Rattle.fields.specs.Field.{Place, place, getOf, flagOf, markOf}
 use Rattle.registers.specs.Map.{resetOf}
 use Rattle.registers.specs.Places.{CR1-PE, CR1-ANFOFF, CR2-START, OAR1-OA1, ISR-TXE, ISR-TXIS, ISR-RXNE, ISR-ADDR, ISR-NACKF, ISR-STOPF, ISR-TC, ISR-TCR, ISR-BERR, ISR-ARLO, ISR-DIR, ISR-ADDCODE, ICR-ADDRCF, ICR-NACKCF, ICR-STOPCF, ICR-BERRCF, ICR-ARLOCF}
 use Rattle.registers.specs.declared.Register.the-variants.{Cr1, Cr2, Oar1, Oar2, Timingr, Isr, Icr, Txdr}
-use Rattle.calls.specs.Calls.{Request, numberOf, call, kinds, transaction, manual, receives, transmits, eventful, isConfigured, hasSecondary}
+use Rattle.calls.specs.Calls.{Request, callNumber, isCall, isKind, transaction, manual, receives, transmits, eventful, isConfigured, hasSecondary}
 use Rattle.calls.specs.Outcomes.{isDone, isEventRead, outcomeValue, readdressed}
-use Rattle.calls.specs.Pieces.{piecesOf, viewAt, viewOf, there}
+use Rattle.calls.specs.Pieces.{piecesOf, viewAt, viewOf, byteThere}
 use Rattle.calls.specs.Words.{cr2Of, timingrOf, oar1Of, oar2Of, registerOf, alterOf}
 use Rattle.calls.specs.declared.Call.{Call}
 use Rattle.calls.specs.declared.Description.{Description}
@@ -25,10 +25,11 @@ use Rattle.calls.specs.declared.Access.{Access}
 use Rattle.calls.specs.declared.Access.the-variants.{Read, Take, Write, Nothing}
 use Rattle.calls.specs.declared.Flag.{Flag}
 use Rattle.calls.specs.declared.Flag.the-variants.{Rxne, Txis, Tc, Tcr, Stopf, Never}
-use Rattle.calls.specs.declared.Then.{Then}
-use Rattle.calls.specs.declared.Then.the-variants.{Goes, Loads, Notes, Next, Enters, Fails, Ends}
+use Rattle.calls.specs.declared.Effect.{Effect}
+use Rattle.calls.specs.declared.Effect.the-variants.{Goes, Loads, Notes, Next, Enters, Fails, Ends}
 use Rattle.calls.specs.declared.SavedCall.{SavedCall}
 use Rattle.calls.specs.declared.View.{View}
+use Rattle.calls.specs.declared.Call.the-variants.{New, TargetNew, ConfigureTargetAddresses, EnableTargetEvent, DisableTargetEvent, Reset, WaitForEvent, WaitForStop, AckTransfer, NackTransfer}
 
 -- ---- The access of each step
 
@@ -85,10 +86,10 @@ accessOf q b s = accessAt (q .call) (q .words) (viewOf q s) b s (s .step)
 -- ---- What follows (`a` is the answer to a read)
 
 -- Errors come before all else that a status word says, BERR before ARLO (section "Leaves").
-abbrev pub errorOr : ℕ → Then → Then
+abbrev pub errorOr : ℕ → Effect → Effect
 errorOr a t = cond (flagOf a ISR-BERR) (Goes BusClear) (cond (flagOf a ISR-ARLO) (Goes ArbitrationClear) t)
 
-abbrev pub nackOr : ℕ → Then → Then
+abbrev pub nackOr : ℕ → Effect → Effect
 nackOr a t = cond (flagOf a ISR-NACKF) (Goes NackClear) t
 
 -- The first error of a transaction is kept while it waits for STOPF, an error in that wait takes its place and ends it
@@ -96,7 +97,7 @@ nackOr a t = cond (flagOf a ISR-NACKF) (Goes NackClear) t
 abbrev pub failing : Call → SavedCall → Bool
 failing c s = transaction c && not (isDone (s .outcome))
 
-abbrev pub failOf : Call → SavedCall → Outcome → Then
+abbrev pub failOf : Call → SavedCall → Outcome → Effect
 failOf c s o = cond (transaction c && isDone (s .outcome)) (Fails o) (Ends o)
 
 -- The bytes that a target transfer counts: all earlier blocks are whole; of a write one less than those put out of the
@@ -105,10 +106,10 @@ abbrev pub countOf : Call → SavedCall → ℕ
 countOf c s = 255 * s .piece + cond (receives c) (s .byte) (s .byte - 1)
 
 -- An automatic read sets NACK in CR2 once it is full or was stopped (section "Target side").
-abbrev pub transferOver : Call → SavedCall → Then
+abbrev pub transferOver : Call → SavedCall → Effect
 transferOver c s = cond (receives c && not (manual c)) (Goes (ModifyRead NackSet)) (Ends (Done (countOf c s)))
 
-abbrev pub notAcknowledged : Call → SavedCall → Then
+abbrev pub notAcknowledged : Call → SavedCall → Effect
 notAcknowledged c s = cond (transaction c) (failOf c s Nack) (transferOver c s)
 
 -- into a piece: a transaction writes CR2, a manual transfer sets NBYTES, an automatic one just waits
@@ -116,42 +117,42 @@ abbrev pub entryStep : Call → Step
 entryStep c = cond (transaction c) Begin (cond (manual c) (ModifyRead NbytesSet) Wait)
 
 -- from an event into the transfer, if there is any piece
-abbrev pub transferOf : Call → Bool → Then
-transferOf c some = cond some (Enters (entryStep c)) (Ends (Done 0))
+abbrev pub transferOf : Call → Bool → Effect
+transferOf c nonempty = cond nonempty (Enters (entryStep c)) (Ends (Done 0))
 
 -- What a complete event means to each call (section "Target side"): 8 reports it, 12 goes on from a read and 11 from a write,
 -- 13 ends at a stop; every other event is the wrong one.
-abbrev pub eventOf : Call → Bool → SavedCall → Then
-eventOf c some s =
-    cond (kinds c 8) (Ends (s .outcome))
-    (cond (isEventRead (s .outcome)) (cond (transmits c) (transferOf c some) (Ends ExpectedWrite))
-    (cond (receives c) (transferOf c some) (Ends ExpectedRead)))
+abbrev pub eventOf : Call → Bool → SavedCall → Effect
+eventOf c nonempty s =
+    cond (isKind c WaitForEvent) (Ends (s .outcome))
+    (cond (isEventRead (s .outcome)) (cond (transmits c) (transferOf c nonempty) (Ends ExpectedWrite))
+    (cond (receives c) (transferOf c nonempty) (Ends ExpectedRead)))
 
-abbrev pub stopEvent : Call → Then
-stopEvent c = cond (kinds c 8) (Ends EventStop) (cond (kinds c 13) (Ends (Done 0)) (Ends Stopped))
+abbrev pub stopEvent : Call → Effect
+stopEvent c = cond (isKind c WaitForEvent) (Ends EventStop) (cond (isKind c WaitForStop) (Ends (Done 0)) (Ends Stopped))
 
 -- ManualAck clears ADDR now if the controller reads; if it writes, byte control is set up first (section "Target side").
-abbrev pub addressFound : Call → Bool → SavedCall → Then
-addressFound c some s =
+abbrev pub addressFound : Call → Bool → SavedCall → Effect
+addressFound c nonempty s =
     cond (manual c)
     (cond (isEventRead (s .outcome)) (Goes EventClear) (Goes (ModifyRead SbcOn)))
-    (eventOf c some s)
+    (eventOf c nonempty s)
 
 -- A ten-bit header, 0x78 under the mask 0x7C, has 30 in bits 2 to 6 of ADDCODE; the address itself then stands in OAR1.
 abbrev pub tenBitHeader : ℕ → Bool
 tenBitHeader code = eqb (getOf code (place 2 5)) 30
 
-abbrev pub findAddress : Call → Bool → SavedCall → Then
-findAddress c some s = cond (tenBitHeader (outcomeValue (s .outcome))) (Goes Address) (addressFound c some s)
+abbrev pub findAddress : Call → Bool → SavedCall → Effect
+findAddress c nonempty s = cond (tenBitHeader (outcomeValue (s .outcome))) (Goes Address) (addressFound c nonempty s)
 
 -- An address match with a byte left in TXDR empties it first. Then AutoAck clears ADDR, ManualAck clears SBC.
 abbrev pub clearStep : Call → Step
 clearStep c = cond (manual c) (ModifyRead SbcOff) EventClear
 
-abbrev pub addressEvent : Call → ℕ → Outcome → Then
+abbrev pub addressEvent : Call → ℕ → Outcome → Effect
 addressEvent c a o = cond (flagOf a ISR-TXE) (Notes o (clearStep c)) (Notes o EventFlush)
 
-abbrev pub eventIn : Call → ℕ → Then
+abbrev pub eventIn : Call → ℕ → Effect
 eventIn c a =
     errorOr a
     (cond (flagOf a ISR-ADDR)
@@ -163,25 +164,25 @@ eventIn c a =
 abbrev pub awaited : Call → View → SavedCall → Flag
 awaited c v s =
     cond (failing c s) Stopf
-    (cond (there c v s) (cond (v .reads) Rxne Txis)
+    (cond (byteThere c v s) (cond (v .reads) Rxne Txis)
     (cond (transaction c) (cond (v .last) Stopf (cond (v .same) Tcr Tc))
     Never))
 
 -- A byte that came in is taken before a stop or a new address is looked at, and NACKF not at all (section "Leaves").
-abbrev pub stopOr : Call → SavedCall → ℕ → Then
+abbrev pub stopOr : Call → SavedCall → ℕ → Effect
 stopOr c s a =
     cond (flagOf a ISR-STOPF || flagOf a ISR-ADDR)
     (cond (transaction c) (failOf c s Stopped) (transferOver c s))
     (Goes Wait)
 
-abbrev pub goesIf : Bool → Step → Then
+abbrev pub goesIf : Bool → Step → Effect
 goesIf flag t = cond flag (Goes t) (Goes Wait)
 
-abbrev pub nextIf : Bool → Then
+abbrev pub nextIf : Bool → Effect
 nextIf flag = cond flag (Next Begin) (Goes Wait)
 
 -- NACKF is looked at before TXIS, and before the flag of every wait at an operation's end (section "Leaves").
-abbrev pub waitAt : Call → View → SavedCall → ℕ → Flag → Then
+abbrev pub waitAt : Call → View → SavedCall → ℕ → Flag → Effect
 waitAt c v s a Rxne = cond (flagOf a ISR-RXNE) (Goes Byte) (stopOr c s a)
 waitAt c v s a Txis = nackOr a (goesIf (flagOf a ISR-TXIS) Byte)
 waitAt c v s a Tc = nackOr a (nextIf (flagOf a ISR-TC))
@@ -190,75 +191,88 @@ waitAt c v s a Stopf = nackOr a (goesIf (flagOf a ISR-STOPF) StopClear)
 waitAt c v s a Never = cond (v .reads) (stopOr c s a) (nackOr a (Goes Wait))
 
 -- a byte was moved (and is counted in s): wait for the next, or go into the next block, or end
-abbrev pub byteMoved : Call → View → SavedCall → Then
+abbrev pub byteMoved : Call → View → SavedCall → Effect
 byteMoved c v s =
-    cond (transaction c || there c v s) (Goes Wait)
+    cond (transaction c || byteThere c v s) (Goes Wait)
     (cond (v .last) (transferOver c s) (Next (entryStep c)))
 
 -- after the own addresses, or without them: call 1 enables, call 2 too but by a modify, call 3 is done
-abbrev pub ownThen : Call → Then
-ownThen c = cond (call c 1) (Goes Enable) (cond (call c 2) (Goes (ModifyRead PeOn)) (Ends (Done 0)))
+abbrev pub ownThen : Call → Effect
+ownThen c = cond (isCall c New) (Goes Enable) (cond (isCall c TargetNew) (Goes (ModifyRead PeOn)) (Ends (Done 0)))
 
-abbrev pub writtenAt : Call → View → SavedCall → Modify → Then
-writtenAt c v s PeOff = cond (call c 6) (Goes Delay1) (Goes Timing)
+abbrev pub writtenAt : Call → View → SavedCall → Modify → Effect
+writtenAt c v s PeOff = cond (isCall c Reset) (Goes Delay1) (Goes Timing)
 writtenAt c v s PeOn = Ends (Done 0)
 writtenAt c v s Listen = Ends (Done 0)
-writtenAt c v s NackSet = cond (call c 15) (Goes (ModifyRead ReloadOff)) (Ends (Done (countOf c s)))
+writtenAt c v s NackSet = cond (isCall c NackTransfer) (Goes (ModifyRead ReloadOff)) (Ends (Done (countOf c s)))
 writtenAt c v s ReloadOff = Ends (Done 0)
 writtenAt c v s SbcOff = Goes (ModifyRead ReloadClear)
-writtenAt c v s ReloadClear = findAddress c (v .some) s
+writtenAt c v s ReloadClear = findAddress c (v .nonempty) s
 writtenAt c v s SbcOn = Goes (ModifyRead ReloadOn)
-writtenAt c v s ReloadOn = eventOf c (v .some) s
+writtenAt c v s ReloadOn = eventOf c (v .nonempty) s
 writtenAt c v s NbytesSet = cond (eqb (s .piece) 0) (Goes TransferClear) (Goes Wait)
 
 -- What the answer leads to. At BYTE the byte is counted in s already, at ADDRESS the address is noted.
-abbrev pub thenAt : Call → Description → View → SavedCall → ℕ → Step → Then
-thenAt c d v s a Ended = Ends (s .outcome)
-thenAt c d v s a Begin = Goes StartStatus
-thenAt c d v s a StartStatus = errorOr a (nackOr a (Goes StartControl))
-thenAt c d v s a StartControl = cond (flagOf a CR2-START) (Goes StartStatus) (Goes Wait)
-thenAt c d v s a Wait = errorOr a (waitAt c v s a (awaited c v s))
-thenAt c d v s a Byte = byteMoved c v s
-thenAt c d v s a StopClear = cond (transaction c) (Ends (s .outcome)) (stopEvent c)
-thenAt c d v s a BusClear = failOf c s Bus
-thenAt c d v s a ArbitrationClear = failOf c s Arbitration
-thenAt c d v s a NackClear = Goes FlushTxis
-thenAt c d v s a FlushTxis = cond (flagOf a ISR-TXIS) (Goes FlushByte) (Goes FlushTxe)
-thenAt c d v s a FlushByte = Goes FlushTxe
-thenAt c d v s a FlushTxe = cond (flagOf a ISR-TXE) (notAcknowledged c s) (Goes Flush)
-thenAt c d v s a Flush = notAcknowledged c s
-thenAt c d v s a Timing = cond (isConfigured (d .config)) (Goes Own) (ownThen c)
-thenAt c d v s a Own = cond (hasSecondary (d .config)) (Goes Secondary) (ownThen c)
-thenAt c d v s a Secondary = ownThen c
-thenAt c d v s a Enable = Ends (Done 0)
-thenAt c d v s a Delay1 = Goes Delay2
-thenAt c d v s a Delay2 = Goes Disabled
-thenAt c d v s a Disabled = cond (flagOf a CR1-PE) (Goes Disabled) (Goes (ModifyRead PeOn))
-thenAt c d v s a Event = eventIn c a
-thenAt c d v s a EventFlush = Goes (clearStep c)
-thenAt c d v s a EventClear = cond (manual c) (eventOf c (v .some) s) (findAddress c (v .some) s)
-thenAt c d v s a Address = addressFound c (v .some) s
-thenAt c d v s a TransferClear = Goes Wait
-thenAt c d v s a (ModifyRead m) = Loads (ModifyWrite m)
-thenAt c d v s a (ModifyWrite m) = writtenAt c v s m
+abbrev pub effectAt : Call → Description → View → SavedCall → ℕ → Step → Effect
+effectAt c d v s a Ended = Ends (s .outcome)
+effectAt c d v s a Begin = Goes StartStatus
+effectAt c d v s a StartStatus = errorOr a (nackOr a (Goes StartControl))
+effectAt c d v s a StartControl = cond (flagOf a CR2-START) (Goes StartStatus) (Goes Wait)
+effectAt c d v s a Wait = errorOr a (waitAt c v s a (awaited c v s))
+effectAt c d v s a Byte = byteMoved c v s
+effectAt c d v s a StopClear = cond (transaction c) (Ends (s .outcome)) (stopEvent c)
+effectAt c d v s a BusClear = failOf c s Bus
+effectAt c d v s a ArbitrationClear = failOf c s Arbitration
+effectAt c d v s a NackClear = Goes FlushTxis
+effectAt c d v s a FlushTxis = cond (flagOf a ISR-TXIS) (Goes FlushByte) (Goes FlushTxe)
+effectAt c d v s a FlushByte = Goes FlushTxe
+effectAt c d v s a FlushTxe = cond (flagOf a ISR-TXE) (notAcknowledged c s) (Goes Flush)
+effectAt c d v s a Flush = notAcknowledged c s
+effectAt c d v s a Timing = cond (isConfigured (d .config)) (Goes Own) (ownThen c)
+effectAt c d v s a Own = cond (hasSecondary (d .config)) (Goes Secondary) (ownThen c)
+effectAt c d v s a Secondary = ownThen c
+effectAt c d v s a Enable = Ends (Done 0)
+effectAt c d v s a Delay1 = Goes Delay2
+effectAt c d v s a Delay2 = Goes Disabled
+effectAt c d v s a Disabled = cond (flagOf a CR1-PE) (Goes Disabled) (Goes (ModifyRead PeOn))
+effectAt c d v s a Event = eventIn c a
+effectAt c d v s a EventFlush = Goes (clearStep c)
+effectAt c d v s a EventClear = cond (manual c) (eventOf c (v .nonempty) s) (findAddress c (v .nonempty) s)
+effectAt c d v s a Address = addressFound c (v .nonempty) s
+effectAt c d v s a TransferClear = Goes Wait
+effectAt c d v s a (ModifyRead m) = Loads (ModifyWrite m)
+effectAt c d v s a (ModifyWrite m) = writtenAt c v s m
 
 -- ---- The saved call after a step
 
 -- one more access, held at the counter's end
-abbrev pub more : ℕ → ℕ
-more n = min (n + 1) 4294967295
+abbrev pub oneMore : ℕ → ℕ
+oneMore n = min (n + 1) 4294967295
 
 abbrev pub savedAt : SavedCall → Step → ℕ → ℕ → ℕ → Outcome → ℕ → SavedCall
-savedAt s t i j w o n = record { call = s .call; piece = i; byte = j; word = w; accesses = n; outcome = o; step = t }
+savedAt s t i j w o n =
+    record {
+      call = s .call;
+      piece = i;
+      byte = j;
+      word = w;
+      accesses = n;
+      outcome = o;
+      step = t;
+    }
 
-abbrev pub applyOf : SavedCall → ℕ → Then → SavedCall
-applyOf s a (Goes t) = savedAt s t (s .piece) (s .byte) (s .word) (s .outcome) (more (s .accesses))
-applyOf s a (Loads t) = savedAt s t (s .piece) (s .byte) a (s .outcome) (more (s .accesses))
-applyOf s a (Notes o t) = savedAt s t (s .piece) (s .byte) (s .word) o (more (s .accesses))
-applyOf s a (Next t) = savedAt s t (s .piece + 1) 0 (s .word) (s .outcome) (more (s .accesses))
-applyOf s a (Enters t) = savedAt s t 0 0 (s .word) (Done 0) (more (s .accesses))
-applyOf s a (Fails o) = savedAt s Wait (s .piece) (s .byte) (s .word) o (more (s .accesses))
-applyOf s a (Ends o) = savedAt s Ended (s .piece) (s .byte) (s .word) o (more (s .accesses))
+-- on to a step with what is on its way then
+abbrev pub goesTo : SavedCall → Step → Outcome → SavedCall
+goesTo s t o = savedAt s t (s .piece) (s .byte) (s .word) o (oneMore (s .accesses))
+
+abbrev pub applyOf : SavedCall → ℕ → Effect → SavedCall
+applyOf s a (Goes t) = goesTo s t (s .outcome)
+applyOf s a (Loads t) = savedAt s t (s .piece) (s .byte) a (s .outcome) (oneMore (s .accesses))
+applyOf s a (Notes o t) = goesTo s t o
+applyOf s a (Next t) = savedAt s t (s .piece + 1) 0 (s .word) (s .outcome) (oneMore (s .accesses))
+applyOf s a (Enters t) = savedAt s t 0 0 (s .word) (Done 0) (oneMore (s .accesses))
+applyOf s a (Fails o) = goesTo s Wait o
+applyOf s a (Ends o) = goesTo s Ended o
 
 -- a number for each step, our own
 abbrev pub modifyNumber : Modify → ℕ
@@ -303,8 +317,19 @@ stepNumber TransferClear = 25
 stepNumber (ModifyRead m) = 26 + modifyNumber m
 stepNumber (ModifyWrite m) = 36 + modifyNumber m
 
-abbrev pub is : Step → Step → Bool
-is t u = eqb (stepNumber t) (stepNumber u)
+-- and all of them, each at the place that its number says
+abbrev pub modifies : List Modify
+modifies = PeOff ∷ PeOn ∷ Listen ∷ NackSet ∷ ReloadOff ∷ SbcOff ∷ ReloadClear ∷ SbcOn ∷ ReloadOn ∷ NbytesSet ∷ []
+
+abbrev pub steps : List Step
+steps =
+    Ended ∷ Begin ∷ StartStatus ∷ StartControl ∷ Wait ∷ Byte ∷ StopClear ∷ BusClear ∷ ArbitrationClear ∷ NackClear
+    ∷ FlushTxis ∷ FlushByte ∷ FlushTxe ∷ Flush ∷ Timing ∷ Own ∷ Secondary ∷ Enable ∷ Delay1 ∷ Delay2 ∷ Disabled
+    ∷ Event ∷ EventFlush ∷ EventClear ∷ Address ∷ TransferClear
+    ∷ map ModifyRead modifies ++ map ModifyWrite modifies
+
+abbrev pub sameStep : Step → Step → Bool
+sameStep t u = eqb (stepNumber t) (stepNumber u)
 
 -- What a step notes first: BYTE counts its byte, held at the piece's length + 1; ADDRESS keeps OA1.
 abbrev pub counted : View → SavedCall → SavedCall
@@ -314,31 +339,44 @@ abbrev pub found : SavedCall → ℕ → SavedCall
 found s a = savedAt s (s .step) (s .piece) (s .byte) (s .word) (readdressed (s .outcome) (getOf a OAR1-OA1)) (s .accesses)
 
 abbrev pub noted : View → SavedCall → ℕ → Step → SavedCall
-noted v s a t = cond (is t Byte) (counted v s) (cond (is t Address) (found s a) s)
+noted v s a t = cond (sameStep t Byte) (counted v s) (cond (sameStep t Address) (found s a) s)
 
 abbrev pub afterIn : Call → Description → View → SavedCall → ℕ → SavedCall
 afterIn c d v s a =
     let s′ : SavedCall = noted v s a (s .step) in
-    applyOf s′ a (thenAt c d v s′ a (s .step))
+    applyOf s′ a (effectAt c d v s′ a (s .step))
 
 unfoldable pub afterOf : Request → SavedCall → ℕ → SavedCall
 afterOf q s a = afterIn (q .call) (q .words) (viewOf q s) s a
 
 -- ---- Begin
 
+-- a saved call of that number that nothing was done for
+abbrev pub freshAt : ℕ → Step → SavedCall
+freshAt n t =
+    record {
+      call = n;
+      piece = 0;
+      byte = 0;
+      word = 0;
+      accesses = 0;
+      outcome = Done 0;
+      step = t;
+    }
+
 abbrev pub startAt : Call → Step → SavedCall
-startAt c t = record { call = numberOf c; piece = 0; byte = 0; word = 0; accesses = 0; outcome = Done 0; step = t }
+startAt c t = freshAt (callNumber c) t
 
 -- Without a piece a transaction and a manual 9 or 10 have ended as done before any access.
 abbrev pub beginAt : Call → Bool → Step
-beginAt c some =
-    cond (call c 1 || (call c 2 || call c 6)) (ModifyRead PeOff)
-    (cond (call c 3) Own
-    (cond (call c 4 || call c 5) (ModifyRead Listen)
-    (cond (call c 14) (ModifyRead ReloadOff)
-    (cond (call c 15) (ModifyRead NackSet)
+beginAt c nonempty =
+    cond (isCall c New || (isCall c TargetNew || isCall c Reset)) (ModifyRead PeOff)
+    (cond (isCall c ConfigureTargetAddresses) Own
+    (cond (isCall c EnableTargetEvent || isCall c DisableTargetEvent) (ModifyRead Listen)
+    (cond (isCall c AckTransfer) (ModifyRead ReloadOff)
+    (cond (isCall c NackTransfer) (ModifyRead NackSet)
     (cond (eventful c) Event
-    (cond some (entryStep c) Ended))))))
+    (cond nonempty (entryStep c) Ended))))))
 
 unfoldable pub beginOf : Request → SavedCall
-beginOf q = startAt (q .call) (beginAt (q .call) (viewAt (piecesOf q) 0 .some))
+beginOf q = startAt (q .call) (beginAt (q .call) (viewAt (piecesOf q) 0 .nonempty))

@@ -9,9 +9,9 @@ use Rattle.registers.specs.Map.{resetOf}
 use Rattle.registers.specs.Places.{CR1-PE, CR1-ANFOFF, CR1-GCEN, CR1-SBC, CR2-SADD, CR2-RD-WRN, CR2-ADD10, CR2-HEAD10R, CR2-START, CR2-NACK, CR2-NBYTES, CR2-RELOAD, CR2-AUTOEND, OAR1-OA1EN, OAR2-OA2EN}
 use Rattle.registers.specs.declared.Register.{Register}
 use Rattle.registers.specs.declared.Register.the-variants.{Cr1, Cr2, Oar1, Oar2}
-use Rattle.timing.specs.Timingr.{wordOf, unpackOf}
+use Rattle.timing.specs.Timingr.{timingrWord, unpackOf}
 use Rattle.timing.specs.declared.I2cTiming.{I2cTiming}
-use Rattle.calls.specs.Calls.{call}
+use Rattle.calls.specs.Calls.{isCall}
 use Rattle.calls.specs.declared.AddressMode.{AddressMode}
 use Rattle.calls.specs.declared.AddressMode.the-variants.{AddressMode7bit, AddressMode10bit}
 use Rattle.calls.specs.declared.Call.{Call}
@@ -25,6 +25,7 @@ use Rattle.calls.specs.declared.Modify.the-variants.{PeOff, PeOn, Listen
 use Rattle.calls.specs.declared.SecondaryAddress.{SecondaryAddress}
 use Rattle.calls.specs.declared.SecondaryAddress.the-variants.{NoSecondary, Secondary}
 use Rattle.calls.specs.declared.View.{View}
+use Rattle.calls.specs.declared.Call.the-variants.{TargetNew, EnableTargetEvent}
 
 -- CR2, once per operation: its length and direction, and how it ends: the last by AUTOEND, one before another of its
 -- direction by RELOAD, else by a repeated start, which takes neither.
@@ -50,7 +51,7 @@ abbrev pub targetTiming : I2cTiming → I2cTiming
 targetTiming t = record { presc = t .presc; scldel = t .scldel; sdadel = t .sdadel; sclh = 0; scll = 0 }
 
 unfoldable pub timingrOf : Call → Description → ℕ
-timingrOf c d = let t = unpackOf (d .timing) in cond (call c 2) (wordOf (targetTiming t)) (wordOf t)
+timingrOf c d = let t = unpackOf (d .timing) in cond (isCall c TargetNew) (timingrWord (targetTiming t)) (timingrWord t)
 
 -- OAR1 and OAR2 of a configuration. Without one neither is written, and OAR2 not without a secondary address: there the
 -- reset values stand.
@@ -90,13 +91,13 @@ registerOf d NbytesSet = Cr2
 
 -- PE on; call 2 also turns the analog filter on
 abbrev pub enabledWord : Call → ℕ → ℕ
-enabledWord c w = markOf (cond (call c 2) (markOf w CR1-ANFOFF false) w) CR1-PE true
+enabledWord c w = markOf (cond (isCall c TargetNew) (markOf w CR1-ANFOFF false) w) CR1-PE true
 
 -- call 4 enables, call 5 disables
 abbrev pub listenWord : Call → ℕ → ℕ → ℕ
 listenWord c kind w =
-    cond (eqb kind 0) (markOf w CR1-GCEN (call c 4))
-    (cond (eqb kind 1) (markOf w OAR1-OA1EN (call c 4)) (markOf w OAR2-OA2EN (call c 4)))
+    cond (eqb kind 0) (markOf w CR1-GCEN (isCall c EnableTargetEvent))
+    (cond (eqb kind 1) (markOf w OAR1-OA1EN (isCall c EnableTargetEvent)) (markOf w OAR2-OA2EN (isCall c EnableTargetEvent)))
 
 -- what a modify writes, of the word w that it read
 unfoldable pub alterOf : Call → Description → View → ℕ → Modify → ℕ

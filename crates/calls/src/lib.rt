@@ -211,7 +211,7 @@ pub struct View {
     pub last: bool,
     pub same: bool,
     pub reload: bool,
-    pub some: bool,
+    pub nonempty: bool,
 }
 
 // The next access. `Take` reads RXDR, and its low eight bits go to that place of the buffer.
@@ -233,7 +233,7 @@ pub enum Flag {
 }
 
 // What an answer leads to.
-pub enum Then {
+pub enum Effect {
     Goes(Step),
     Loads(Step),
     Notes(Outcome, Step),
@@ -243,11 +243,12 @@ pub enum Then {
     Ends(Outcome),
 }
 
-// How an advance comes out: the call is over, the log is full, a read waits for its answer, or the advance is refused.
+// How an advance comes out: the call is over, the log is full, a read of that register waits for its answer, or the advance
+// is refused.
 pub enum Report {
     Over(Outcome),
     Full,
-    Waiting,
+    Waiting(Register),
     Refused(Refusal),
 }
 

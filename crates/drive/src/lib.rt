@@ -1,39 +1,27 @@
 // A call driven to its end, with a log of fixed size, piece after piece.
 ghost use mathlib.Core.Path.{_≡_};
 ghost use Prim.Native.Nat.{_≤_};
-ghost use lib.ListN.{length, drop};
-ghost use Rattle.calls.specs.Joined.{isFull};
+ghost use lib.ListN.{length};
+ghost use Rattle.calls.specs.Joined.{reachedBy, goOn};
 ghost use Rattle.calls.specs.Run.{runOf};
 ghost use Rattle.window.specs.Window.{laid};
-ghost use Rattle.drive.specs.Drive.{asFar, farBy, goOn, places, runFor};
+ghost use Rattle.drive.specs.Drive.{asDriven, inLines, places, runFor};
+use calls::Advanced;
 use calls::Description;
 use calls::Report;
 use calls::SavedCall;
-use window::Place;
+use kinds::report;
+use window::Cursor;
 
 // The words of the log: 512 places. A run has as many advances as make 131,072 places.
 const LOG: usize = 1024;
 
 const PIECES: usize = 256;
 
-// How far a call has come: where its text stands, the call, what the last advance said, and what all of them used and made.
+// How far a call has come: where its text stands, and what its advances gave.
 pub struct Driven {
-    pub place: Place,
-    pub saved: SavedCall,
-    pub report: Report,
-    pub used: usize,
-    pub accesses: usize,
-}
-
-fn is_full(r: Report) -> bool
-    ensures { λ t. ⌜ t ≡ isFull r ⌝ }
-{
-    match r {
-        Report::Over(_) => false,
-        Report::Full => true,
-        Report::Waiting => false,
-        Report::Refused(_) => false,
-    }
+    pub place: Cursor,
+    pub advanced: Advanced,
 }
 
 fn log() -> [u32; LOG]
@@ -51,28 +39,32 @@ fn piece(
     answers: &[u32],
     out: &mut [u8],
 ) -> Driven
-    requires { ⌜ (t .used ≤ length (now answers)) × (t .accesses ≤ 131072) ⌝ }
-    ensures { λ r. ⌜ asFar r (now (buffer .exit)) (now (out .exit)) ≡ goOn (asFar t (now (buffer .entry)) (now (out .entry))) (runOf d (now (ops .entry)) 512 (t .saved) (now (buffer .entry)) (drop (t .used) (now (answers .entry)))) ⌝ }
+    requires { ⌜ (t .advanced .used ≤ length (now answers)) × (t .advanced .written ≤ 131072) ⌝ }
+    ensures { λ r. ⌜ asDriven r (now (buffer .exit)) (now (out .exit)) ≡ goOn inLines d (now (ops .entry)) (now (answers .entry)) 512 (asDriven t (now (buffer .entry)) (now (out .entry))) ⌝ }
 {
     let mut log = log();
-    let saved = t.saved;
     let place = t.place;
-    let used = t.used;
+    let far = t.advanced;
+    let used = far.used;
+    let saved = far.saved;
     let a = in_place::advance(d, ops, saved, buffer, &answers[used..], &mut log);
+    let words = 2 * a.written;
     let next = a.saved;
     let report = a.report;
-    let words = 2 * a.written;
-    Driven {
-        place: lines::put_accesses(place, &log[..words], out),
+    let advanced = Advanced {
+        used: used + a.used,
+        written: far.written + a.written,
         saved: next,
         report,
-        used: used + a.used,
-        accesses: t.accesses + a.written,
+    };
+    Driven {
+        place: lines::put_accesses(place, &log[..words], out),
+        advanced,
     }
 }
 
 fn run(
-    p: Place,
+    p: Cursor,
     d: Description,
     ops: &[u32],
     saved: SavedCall,
@@ -80,21 +72,22 @@ fn run(
     answers: &[u32],
     out: &mut [u8],
 ) -> Driven
-    ensures { λ r. ⌜ asFar r (now (buffer .exit)) (now (out .exit)) ≡ farBy (runOf d (now (ops .entry)) places saved (now (buffer .entry)) (now (answers .entry))) (laid p (now (out .entry))) ⌝ }
+    ensures { λ r. ⌜ asDriven r (now (buffer .exit)) (now (out .exit)) ≡ reachedBy inLines (runOf d (now (ops .entry)) places saved (now (buffer .entry)) (now (answers .entry))) (laid p (now (out .entry))) ⌝ }
 {
-    let mut t = Driven {
-        place: p,
+    let advanced = Advanced {
+        used: 0,
+        written: 0,
         saved,
         report: Report::Full,
-        used: 0,
-        accesses: 0,
     };
+    let mut t = Driven { place: p, advanced };
     let mut left = PIECES;
     while 0 < left {
         t = piece(t, d, ops, buffer, answers, out);
         left -= 1;
-        let report = t.report;
-        if !is_full(report) {
+        let far = t.advanced;
+        let report = far.report;
+        if !report::is_full(report) {
             return t;
         }
     }
@@ -103,14 +96,14 @@ fn run(
 
 // Drives a call from its beginning; its access lines are put into the window.
 pub fn drive(
-    p: Place,
+    p: Cursor,
     d: Description,
     ops: &[u32],
     buffer: &mut [u8],
     answers: &[u32],
     out: &mut [u8],
 ) -> Driven
-    ensures { λ r. ⌜ asFar r (now (buffer .exit)) (now (out .exit)) ≡ farBy (runFor d (now (ops .entry)) (now (buffer .entry)) (now (answers .entry))) (laid p (now (out .entry))) ⌝ }
+    ensures { λ r. ⌜ asDriven r (now (buffer .exit)) (now (out .exit)) ≡ reachedBy inLines (runFor d (now (ops .entry)) (now (buffer .entry)) (now (answers .entry))) (laid p (now (out .entry))) ⌝ }
 {
     let begun = driver::begin(d, ops, buffer);
     let saved = begun.saved;

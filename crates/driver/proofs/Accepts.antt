@@ -8,10 +8,10 @@ use mathlib.Core.List.{List}
 use lib.Dec.{eqb, ltb}
 use lib.ListN.{length}
 use Rattle.calls.proofs.Accepted.{Known}
-use Rattle.calls.specs.Calls.{numberOf}
+use Rattle.calls.specs.Calls.{callNumber}
 use Rattle.calls.specs.Pieces.{piecesFor, pieceAt, viewOf}
-use Rattle.calls.specs.Refusals.{requestOf, groupOf, hasIn, accepts}
-use Rattle.calls.specs.Steps.{is}
+use Rattle.calls.specs.Refusals.{requestOf, groupOf, groupTaken, accepts}
+use Rattle.calls.specs.Steps.{sameStep}
 use Rattle.calls.specs.declared.Call.{Call}
 use Rattle.calls.specs.declared.Description.{Description}
 use Rattle.calls.specs.declared.SavedCall.{SavedCall}
@@ -24,8 +24,8 @@ use Rattle.driver.specs.Views.{atByte}
 module _ (c : Call) (d : Description) (ops : List ℕ) (n : ℕ) (s : SavedCall) where
   -- the row, from the count of the pieces and the running one's size
   pub accepts-is : (k : ℕ) {r : Bool} → k ≡ length (piecesFor c ops n) →
-      r ≡ (eqb (s .call) (numberOf c) && (is (s .step) Ended ||
-      (hasIn c d (ltb 0 k) (groupOf (s .step)) &&
+      r ≡ (eqb (s .call) (callNumber c) && (sameStep (s .step) Ended ||
+      (groupTaken c d (ltb 0 k) (groupOf (s .step)) &&
       (ltb (s .piece) (max 1 k) && atByte c s k (pieceAt (piecesFor c ops n) (s .piece) .size))))) →
       r ≡ accepts (requestOf c d ops n) s
   unfolding accepts

@@ -3,6 +3,7 @@ pub mod Accepts
 pub mod Loop
 pub mod Shortcuts
 pub mod CameBack
+pub mod Awaited
 pub mod Demand
 pub mod Restated
 pub mod Worked

@@ -20,7 +20,7 @@ use Rattle.calls.proofs.Logic.{both, is-true}
 use Rattle.calls.specs.Calls.{Request}
 use Rattle.calls.specs.Pieces.{viewOf}
 use Rattle.calls.specs.Run.{Entry, wordsOf, readEntry, writeEntry, byteOf, Run, stops, turnOf, advanceFrom, Final, finalBy, asFinal}
-use Rattle.calls.specs.Steps.{accessOf, afterIn, afterOf, is}
+use Rattle.calls.specs.Steps.{accessOf, afterIn, afterOf, sameStep}
 use Rattle.calls.specs.declared.Access.{Access}
 use Rattle.calls.specs.declared.Access.the-variants.{Read, Take, Write, Nothing}
 use Rattle.calls.specs.declared.Call.{Call}
@@ -30,9 +30,9 @@ use Rattle.calls.specs.declared.Report.the-variants.{Over, Full}
 use Rattle.calls.specs.declared.SavedCall.{SavedCall}
 use Rattle.calls.specs.declared.Step.the-variants.{Ended}
 use Rattle.calls.specs.declared.View.{View}
-use Rattle.driver.specs.Turn.{Made, asMade, madeBy, madeOf, Turn, asTurn, turnBy, turnOf as turnIn, passed, movedBy, quickTurned, Quickly}
+use Rattle.driver.specs.Turn.{AttemptLeft, asMade, madeBy, madeOf, TurnLeft, asTurn, turnBy, turnLeft as turnIn, passed, movedBy, quickTurned, Quickly}
 use Rattle.driver.specs.declared.quick.Quick.{Quick}
-use Rattle.driver.specs.declared.run.Found.{Found}
+use Rattle.driver.specs.declared.run.Attempt.{Attempt}
 use Rattle.driver.specs.declared.run.Turned.{Turned}
 
 -- the run R after u answers and w entries, its words in the log from `at` on
@@ -81,17 +81,17 @@ more log at u u′ w e k R m =
     let n : w + 1 + length (R .entries) ≡ w + suc (length (R .entries)) = omega arith in
     rw (p, q, n, m)
 
-abbrev asEnd : ℕ → Turn → Final
+abbrev asEnd : ℕ → TurnLeft → Final
 asEnd w t =
     record { advanced = record { used = t .used; written = w; saved = t .saved; report = t .report }; buffer = t .buffer; log = t .log }
 
-abbrev Steps : Request → List ℕ → SavedCall → List ℕ → ℕ → List ℕ → ℕ → ℕ → ℕ → Turn → Type 0
+abbrev Steps : Request → List ℕ → SavedCall → List ℕ → ℕ → List ℕ → ℕ → ℕ → ℕ → TurnLeft → Type 0
 Steps q l s b u log at w n t =
     finish log at u w (advanceFrom q (suc n) s b (drop u l)) ≡
     cond (t .going) (finish (t .log) (at + 2) (t .used) (w + 1) (advanceFrom q n (t .saved) (t .buffer) (drop (t .used) l))) (asEnd w t)
 
 module _ (q : Request) (l : List ℕ) (s : SavedCall) (b : List ℕ) (u : ℕ) (log : List ℕ) (at w n : ℕ) where
-  abbrev madeIn : Access → Turn
+  abbrev madeIn : Access → TurnLeft
   madeIn x = turnBy (q .call) (q .words) (viewOf q s) s (madeBy s b l u log at x)
 
   -- the answer that is left, and what follows it
@@ -120,7 +120,7 @@ module _ (q : Request) (l : List ℕ) (s : SavedCall) (b : List ℕ) (u : ℕ) (
   turned = step (accessOf q b s) (ltb u (length l)) refl refl
 
 -- an access that was made, and the call after it, are a turn
-module _ (c : Call) (d : Description) (v : View) (s : SavedCall) (f : Found) (b log : List ℕ) (M : Made) (E : asMade f b log ≡ M) where
+module _ (c : Call) (d : Description) (v : View) (s : SavedCall) (f : Attempt) (b log : List ℕ) (M : AttemptLeft) (E : asMade f b log ≡ M) where
   pub goes : f .going ≡ true → (n : SavedCall) → n ≡ afterIn c d v s (f .answer) →
       asTurn (record { going = true; report = f .report; used = f .used; saved = n }) b log ≡ turnBy c d v s M
   goes g n e = rw e (rw g at (ap (turnBy c d v s) E))
@@ -186,9 +186,9 @@ module _ (q : Request) (l : List ℕ) (p : ℕ) (F : Final) (b₀ log₀ b log :
     unfolding afterOf accessOf
     kept m =
         let M = madeOf (q .call) (q .words) (viewOf q s) s b l u log (2 * w) in
-        let goes : M .going ≡ true = sym (ap (λ (x : Turn). x .going) seen) ∙ m in
-        let next : t .saved ≡ afterOf q s (M .answer) = rw goes at (ap (λ (x : Turn). x .saved) seen) in
-        both (is (s .step) Ended)
+        let goes : M .going ≡ true = sym (ap (λ (x : TurnLeft). x .going) seen) ∙ m in
+        let next : t .saved ≡ afterOf q s (M .answer) = rw goes at (ap (λ (x : TurnLeft). x .saved) seen) in
+        both (sameStep (s .step) Ended)
         (λ n. let x : false ≡ true = ap (λ (y : Access). madeBy s b l u log (2 * w) y .going) (sym (no-access q b s n)) ∙ goes in absurd (subst⁻¹ T x tt))
         (λ n. subst⁻¹ (Known q) next (known-after q s (M .answer) n (g .known)))
 
@@ -206,7 +206,7 @@ module _ (q : Request) (l : List ℕ) (p : ℕ) (F : Final) (b₀ log₀ b log :
 
   -- a quick one: the running piece stays, so its view does
   module _ (k : Quick) (b′ log′ : List ℕ) (Q : Quickly v s b l u log (2 * w) k b′ log′) where
-    abbrev came : Bool → Turn
+    abbrev came : Bool → TurnLeft
     came y = cond y (turnIn (q .call) (q .words) v s b l u log (2 * w)) (asTurn (quickTurned s (passed s u)) b log)
 
     by-made : (y : Bool) → k .made ≡ y → asTurn (quickTurned s k) b′ log′ ≡ came y
@@ -219,12 +219,12 @@ module _ (q : Request) (l : List ℕ) (p : ℕ) (F : Final) (b₀ log₀ b log :
     -- passed on, with nothing touched
     pub stays-quick : k .made ≡ false → Going q l p F b₀ log₀ b′ log′ s v u w
     stays-quick m =
-        let buffer : b′ ≡ b = ap (λ (x : Turn). x .buffer) (by-made false m) in
-        let words : log′ ≡ log = ap (λ (x : Turn). x .log) (by-made false m) in
+        let buffer : b′ ≡ b = ap (λ (x : TurnLeft). x .buffer) (by-made false m) in
+        let words : log′ ≡ log = ap (λ (x : TurnLeft). x .log) (by-made false m) in
         rw (buffer, words) g
 
   -- no place is left
-  pub full : p ≤ w → (r : Report) → r ≡ cond (is (s .step) Ended) (Over (s .outcome)) Full →
+  pub full : p ≤ w → (r : Report) → r ≡ cond (sameStep (s .step) Ended) (Over (s .outcome)) Full →
       asFinal (record { used = u; written = w; saved = s; report = r }) b log ≡ F
   unfolding advanceFrom
   full h r e =
@@ -234,8 +234,8 @@ module _ (q : Request) (l : List ℕ) (p : ℕ) (F : Final) (b₀ log₀ b log :
       sym all ∙ g .rest
 
 -- an ended call is over, however many places there are
-pub ended : (q : Request) (n : ℕ) (s : SavedCall) (b l : List ℕ) → T (is (s .step) Ended) →
+pub ended : (q : Request) (n : ℕ) (s : SavedCall) (b l : List ℕ) → T (sameStep (s .step) Ended) →
     advanceFrom q n s b l ≡ stops (Over (s .outcome)) s b
 unfolding advanceFrom
-ended q zero s b l h = rw (is-true (is (s .step) Ended) h)
+ended q zero s b l h = rw (is-true (sameStep (s .step) Ended) h)
 ended q (suc n) s b l h = rw (no-access q b s h)

@@ -172,7 +172,7 @@ module _ (c : Call) (ops : List ℕ) (n : ℕ) where
         last = leb k (i + 1);
         same = same;
         reload = reload;
-        some = ltb 0 k;
+        nonempty = ltb 0 k;
       } ≡ viewAt (piecesFor c ops n) i
   view-is k i start size reads next same reload a b d e f g h =
       rw (h, g, f, e, d, b, a, reads-is i, reads-is (i + 1), reads-is (i - 1))

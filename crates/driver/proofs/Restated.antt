@@ -19,7 +19,7 @@ use Rattle.calls.specs.Calls.{Request}
 use Rattle.calls.specs.Demand.{Kept, Demand3}
 use Rattle.calls.specs.Refusals.{requestOf, checkOf, accepts}
 use Rattle.calls.specs.Run.{wordsOf, begunBy, begunOf, Run, stops, advanceFrom, runOf, Final}
-use Rattle.calls.specs.Steps.{accessOf, beginOf, is}
+use Rattle.calls.specs.Steps.{accessOf, beginOf, sameStep}
 use Rattle.calls.specs.declared.Access.the-variants as access
 use Rattle.calls.specs.declared.Begun.{Begun}
 use Rattle.calls.specs.declared.Call.{Call}
@@ -97,9 +97,9 @@ idle A s r h e =
       ),
     )
 
-over-again : (q : Request) (n : ℕ) (s : SavedCall) (b l : List ℕ) → T (is (s .step) Ended) → advanceFrom q n s b l ≡ stops (Over (s .outcome)) s b
+over-again : (q : Request) (n : ℕ) (s : SavedCall) (b l : List ℕ) → T (sameStep (s .step) Ended) → advanceFrom q n s b l ≡ stops (Over (s .outcome)) s b
 unfolding advanceFrom
-over-again q zero s b l e = rw (is-true (is (s .step) Ended) e)
+over-again q zero s b l e = rw (is-true (sameStep (s .step) Ended) e)
 over-again q (suc n) s b l e = rw (no-access q b s e)
 
 -- what it was lent, what it returned, and the slices as it left them

@@ -7,7 +7,7 @@ use mathlib.Core.Bool.{Bool, true, false, cond, _&&_, _||_}
 use mathlib.Core.List.{List}
 use lib.Dec.{T, eqb, ltb, leb, eqb→eq, ltb→lt, leb→le}
 use lib.ListN.{length, getD, set}
-use Rattle.access.proofs.Branch.{holds}
+use Rattle.kinds.proofs.Branch.{holds}
 use Rattle.fields.proofs.Laws.{get-within, and-l, and-r}
 use Rattle.fields.specs.Field.{Place, inside, place, bit, getOf, bitsAt, flagOf}
 use Rattle.registers.specs.Map.{offsetOf}
@@ -18,7 +18,7 @@ use Rattle.calls.proofs.Logic.{is-true}
 use Rattle.calls.specs.Calls.{transaction}
 use Rattle.calls.specs.Outcomes.{isDone}
 use Rattle.calls.specs.Run.{byteOf}
-use Rattle.calls.specs.Steps.{is, errorOr, nackOr, stopOr, transferOver, entryStep, awaited, waitAt, thenAt, byteOut, accessAt, applyOf, counted, noted}
+use Rattle.calls.specs.Steps.{sameStep, errorOr, nackOr, stopOr, transferOver, entryStep, awaited, waitAt, effectAt, byteOut, accessAt, applyOf, counted, noted}
 use Rattle.calls.specs.declared.Call.{Call}
 use Rattle.calls.specs.declared.Description.{Description}
 use Rattle.calls.specs.declared.Flag.{Flag}
@@ -26,10 +26,10 @@ use Rattle.calls.specs.declared.Flag.the-variants.{Rxne, Txis, Tc, Tcr, Stopf, 
 use Rattle.calls.specs.declared.SavedCall.{SavedCall}
 use Rattle.calls.specs.declared.Step.{Step}
 use Rattle.calls.specs.declared.Step.the-variants.{Wait, Byte}
-use Rattle.calls.specs.declared.Then.the-variants.{Goes, Next}
+use Rattle.calls.specs.declared.Effect.the-variants.{Goes, Next}
 use Rattle.calls.specs.declared.View.{View}
 use Rattle.driver.proofs.Loop.{goes}
-use Rattle.driver.specs.Turn.{asMade, went, madeBy, madeOf, asTurn, turnOf, quickly, movedBy, quickTurned}
+use Rattle.driver.specs.Turn.{asMade, went, madeBy, madeOf, asTurn, turnLeft, quickly, movedBy, quickTurned}
 
 -- ---- The flags that a wait looks at stand in bits 1 to 9 of the status word.
 
@@ -76,7 +76,7 @@ module _ (c : Call) (v : View) (s : SavedCall) (a : ℕ) where
         never true = rw (off ISR-STOPF tt, off ISR-ADDR tt)
         never false = rw (off ISR-NACKF tt)
 
-    pub idle : (d : Description) → thenAt c d v s a Wait ≡ Goes Wait
+    pub idle : (d : Description) → effectAt c d v s a Wait ≡ Goes Wait
     idle d = rw (off ISR-BERR tt, off ISR-ARLO tt) (idle-at (awaited c v s))
 
   -- just the awaited one, for a byte of the piece
@@ -88,7 +88,7 @@ module _ (c : Call) (v : View) (s : SavedCall) (a : ℕ) where
       and-false false = refl
 
   pub ready : (f : ℕ) → f ≡ flags a → (eqb f (cond (v .reads) 2 1) && (isDone (s .outcome) && ltb (s .byte) (v .size))) ≡ true →
-      (d : Description) → thenAt c d v s a Wait ≡ Goes Byte
+      (d : Description) → effectAt c d v s a Wait ≡ Goes Byte
   ready f e h d =
       let t = holds h in
       let u = and-r (eqb f (cond (v .reads) 2 1)) _ t in
@@ -100,7 +100,7 @@ module _ (c : Call) (v : View) (s : SavedCall) (a : ℕ) where
       go false k = rw (flag a 1 ISR-BERR k tt, flag a 1 ISR-ARLO k tt, flag a 1 ISR-NACKF k tt, flag a 1 ISR-TXIS k tt)
 
   -- a byte that another one of the piece follows
-  pub moved : (d : Description) → s .byte + 1 < v .size → thenAt c d v (counted v s) a Byte ≡ Goes Wait
+  pub moved : (d : Description) → s .byte + 1 < v .size → effectAt c d v (counted v s) a Byte ≡ Goes Wait
   moved d h =
       rw (lt-ltb (min (s .byte + 1) (v .size + 1)) (v .size) (omega arith)) (go (transaction c))
     where
@@ -114,28 +114,28 @@ module _ (c : Call) (d : Description) (v : View) (s : SavedCall) (b l : List ℕ
   -- an entry in the log, and t next
   abbrev Turns : ℕ → ℕ → ℕ → ℕ → Step → List ℕ → Type 0
   Turns code value u′ j t b′ =
-      asTurn (quickTurned s (quickly u′ j t)) b′ (set (set log at code) (at + 1) value) ≡ turnOf c d v s b l u log at
+      asTurn (quickTurned s (quickly u′ j t)) b′ (set (set log at code) (at + 1) value) ≡ turnLeft c d v s b l u log at
 
   -- from the access of the step x, with its answer, and what follows
   turns : (code value u′ a j : ℕ) (t x : Step) (b′ : List ℕ) → s .step ≡ x →
       asMade (went u′ a) b′ (set (set log at code) (at + 1) value) ≡ madeBy s b l u log at (accessAt c d v b s x) →
-      movedBy s (quickly u′ j t) ≡ applyOf (noted v s a x) a (thenAt c d v (noted v s a x) a x) → Turns code value u′ j t b′
+      movedBy s (quickly u′ j t) ≡ applyOf (noted v s a x) a (effectAt c d v (noted v s a x) a x) → Turns code value u′ j t b′
   turns code value u′ a j t x b′ e m n =
       goes c d v s (went u′ a) b′ _ (madeOf c d v s b l u log at)
       (m ∙ ap (λ (y : Step). madeBy s b l u log at (accessAt c d v b s y)) (sym e)) refl _
-      (n ∙ ap (λ (y : Step). applyOf (noted v s a y) a (thenAt c d v (noted v s a y) a y)) (sym e))
+      (n ∙ ap (λ (y : Step). applyOf (noted v s a y) a (effectAt c d v (noted v s a y) a y)) (sym e))
 
-  pub waited : (t : Step) → is (s .step) Wait ≡ true → ltb u (length l) ≡ true → thenAt c d v s (getD l u 0) Wait ≡ Goes t →
+  pub waited : (t : Step) → sameStep (s .step) Wait ≡ true → ltb u (length l) ≡ true → effectAt c d v s (getD l u 0) Wait ≡ Goes t →
       Turns (offsetOf Isr) (getD l u 0) (u + 1) (s .byte) t b
   waited t w h e =
       turns _ _ (u + 1) (getD l u 0) _ _ Wait _ (is-eq (s .step) Wait (rw w tt)) (rw h) (ap (applyOf s (getD l u 0)) (sym e))
 
-  module _ (w : is (s .step) Byte ≡ true) (more : s .byte + 1 < v .size) where
+  module _ (w : sameStep (s .step) Byte ≡ true) (more : s .byte + 1 < v .size) where
     at-byte : s .step ≡ Byte
     at-byte = is-eq (s .step) Byte (rw w tt)
 
     next : (u′ a : ℕ) →
-        movedBy s (quickly u′ (s .byte + 1) Wait) ≡ applyOf (counted v s) a (thenAt c d v (counted v s) a Byte)
+        movedBy s (quickly u′ (s .byte + 1) Wait) ≡ applyOf (counted v s) a (effectAt c d v (counted v s) a Byte)
     next u′ a =
         let e : s .byte + 1 ≡ min (s .byte + 1) (v .size + 1) = omega arith in
         ap (λ (j : ℕ). movedBy s (quickly u′ j Wait)) e ∙ ap (applyOf (counted v s) a) (sym (moved c v s a d more))

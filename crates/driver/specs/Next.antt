@@ -3,7 +3,7 @@ use Prim.Native.Nat.{ℕ}
 use mathlib.Core.Bool.{cond}
 use mathlib.Core.List.{List}
 use lib.ListN.{length}
-use Rattle.access.specs.Next.{nextOf}
+use Rattle.calls.specs.Next.{nextOf}
 use Rattle.calls.specs.Calls.{Request}
 use Rattle.calls.specs.Refusals.{requestOf, checkOf, accepts}
 use Rattle.calls.specs.Steps.{accessOf}

@@ -1,4 +1,4 @@
--- One turn of the loop of advance, over the whole lists of answers and of the log's words. Assumes nothing.
+-- Serves the proof of the loop: one turn of it, over the whole lists of answers and of the log's words. Assumes nothing.
 use Prim.Native.Nat.{ℕ, _+_}
 use mathlib.Core.Bool.{Bool, true, false, cond}
 use mathlib.Core.Path.{_≡_}
@@ -8,7 +8,7 @@ use lib.ListN.{length, getD, set}
 use Rattle.registers.specs.Map.{offsetOf}
 use Rattle.registers.specs.declared.Register.the-variants.{Rxdr}
 use Rattle.calls.specs.Run.{Entry, readEntry, writeEntry, byteOf}
-use Rattle.calls.specs.Steps.{accessAt, savedAt, more, afterIn}
+use Rattle.calls.specs.Steps.{accessAt, savedAt, oneMore, afterIn}
 use Rattle.calls.specs.declared.Access.{Access}
 use Rattle.calls.specs.declared.Access.the-variants.{Read, Take, Write, Nothing}
 use Rattle.calls.specs.declared.Advanced.{Advanced}
@@ -20,7 +20,7 @@ use Rattle.calls.specs.declared.SavedCall.{SavedCall}
 use Rattle.calls.specs.declared.View.{View}
 use Rattle.calls.specs.declared.Step.{Step}
 use Rattle.driver.specs.declared.quick.Quick.{Quick}
-use Rattle.driver.specs.declared.run.Found.{Found}
+use Rattle.driver.specs.declared.run.Attempt.{Attempt}
 use Rattle.driver.specs.declared.run.Turned.{Turned}
 
 -- nothing used, nothing written
@@ -28,7 +28,7 @@ abbrev pub untouched : Report → SavedCall → Advanced
 untouched r s = record { used = 0; written = 0; saved = s; report = r }
 
 -- the access of a turn, with the answer u of l, the buffer b and the log from its word `at` on
-pub record Made : Type 0 where
+pub record AttemptLeft : Type 0 where
   pub going : Bool
   pub report : Report
   pub used : ℕ
@@ -36,33 +36,33 @@ pub record Made : Type 0 where
   pub buffer : List ℕ
   pub log : List ℕ
 
-abbrev pub stayed : Report → ℕ → Found
+abbrev pub stayed : Report → ℕ → Attempt
 stayed r u = record { going = false; report = r; used = u; answer = 0 }
 
-abbrev pub went : ℕ → ℕ → Found
+abbrev pub went : ℕ → ℕ → Attempt
 went u a = record { going = true; report = Full; used = u; answer = a }
 
-abbrev pub asMade : Found → List ℕ → List ℕ → Made
+abbrev pub asMade : Attempt → List ℕ → List ℕ → AttemptLeft
 asMade f b log = record { going = f .going; report = f .report; used = f .used; answer = f .answer; buffer = b; log = log }
 
 -- with an entry at `at`
-abbrev pub entered : Entry → ℕ → ℕ → List ℕ → List ℕ → ℕ → Made
+abbrev pub entered : Entry → ℕ → ℕ → List ℕ → List ℕ → ℕ → AttemptLeft
 entered e u a b log at = asMade (went u a) b (set (set log at (e .code)) (at + 1) (e .value))
 
-abbrev pub madeBy : SavedCall → List ℕ → List ℕ → ℕ → List ℕ → ℕ → Access → Made
+abbrev pub madeBy : SavedCall → List ℕ → List ℕ → ℕ → List ℕ → ℕ → Access → AttemptLeft
 madeBy s b l u log at Nothing = asMade (stayed (Over (s .outcome)) u) b log
 madeBy s b l u log at (Write r v) = entered (writeEntry r v) u 0 b log at
 madeBy s b l u log at (Read r) =
-    cond (ltb u (length l)) (entered (readEntry r (getD l u 0)) (u + 1) (getD l u 0) b log at) (asMade (stayed Waiting u) b log)
+    cond (ltb u (length l)) (entered (readEntry r (getD l u 0)) (u + 1) (getD l u 0) b log at) (asMade (stayed (Waiting r) u) b log)
 madeBy s b l u log at (Take i) =
     cond (ltb u (length l))
-    (entered (readEntry Rxdr (getD l u 0)) (u + 1) (getD l u 0) (set b i (byteOf (getD l u 0))) log at) (asMade (stayed Waiting u) b log)
+    (entered (readEntry Rxdr (getD l u 0)) (u + 1) (getD l u 0) (set b i (byteOf (getD l u 0))) log at) (asMade (stayed (Waiting Rxdr) u) b log)
 
-abbrev pub madeOf : Call → Description → View → SavedCall → List ℕ → List ℕ → ℕ → List ℕ → ℕ → Made
+abbrev pub madeOf : Call → Description → View → SavedCall → List ℕ → List ℕ → ℕ → List ℕ → ℕ → AttemptLeft
 madeOf c d v s b l u log at = madeBy s b l u log at (accessAt c d v b s (s .step))
 
 -- the turn: the call after its access, too
-pub record Turn : Type 0 where
+pub record TurnLeft : Type 0 where
   pub going : Bool
   pub report : Report
   pub used : ℕ
@@ -70,10 +70,10 @@ pub record Turn : Type 0 where
   pub buffer : List ℕ
   pub log : List ℕ
 
-abbrev pub asTurn : Turned → List ℕ → List ℕ → Turn
+abbrev pub asTurn : Turned → List ℕ → List ℕ → TurnLeft
 asTurn t b log = record { going = t .going; report = t .report; used = t .used; saved = t .saved; buffer = b; log = log }
 
-abbrev pub turnBy : Call → Description → View → SavedCall → Made → Turn
+abbrev pub turnBy : Call → Description → View → SavedCall → AttemptLeft → TurnLeft
 turnBy c d v s m =
     record {
       going = m .going;
@@ -84,8 +84,8 @@ turnBy c d v s m =
       log = m .log;
     }
 
-abbrev pub turnOf : Call → Description → View → SavedCall → List ℕ → List ℕ → ℕ → List ℕ → ℕ → Turn
-turnOf c d v s b l u log at = turnBy c d v s (madeOf c d v s b l u log at)
+abbrev pub turnLeft : Call → Description → View → SavedCall → List ℕ → List ℕ → ℕ → List ℕ → ℕ → TurnLeft
+turnLeft c d v s b l u log at = turnBy c d v s (madeOf c d v s b l u log at)
 
 -- A quick turn: made, or passed on.
 abbrev pub quickly : ℕ → ℕ → Step → Quick
@@ -95,7 +95,7 @@ abbrev pub passed : SavedCall → ℕ → Quick
 passed s u = record { made = false; used = u; byte = s .byte; step = s .step }
 
 abbrev pub movedBy : SavedCall → Quick → SavedCall
-movedBy s k = savedAt s (k .step) (s .piece) (k .byte) (s .word) (s .outcome) (more (s .accesses))
+movedBy s k = savedAt s (k .step) (s .piece) (k .byte) (s .word) (s .outcome) (oneMore (s .accesses))
 
 abbrev pub quickTurned : SavedCall → Quick → Turned
 quickTurned s k = record { going = k .made; report = Full; used = k .used; saved = movedBy s k }
@@ -105,4 +105,4 @@ abbrev pub Quickly : View → SavedCall → List ℕ → List ℕ → ℕ → Li
 Quickly v s b l u log at k b′ log′ =
     (c : Call) (d : Description) →
     asTurn (quickTurned s k) b′ log′ ≡
-    cond (k .made) (turnOf c d v s b l u log at) (asTurn (quickTurned s (passed s u)) b log)
+    cond (k .made) (turnLeft c d v s b l u log at) (asTurn (quickTurned s (passed s u)) b log)

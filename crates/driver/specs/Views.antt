@@ -1,4 +1,4 @@
--- Parts of the definitions of a view and of row 13, in the numbers that the code has at hand. Assumes nothing.
+-- Serves the proofs of a view and of row 13: parts of them in the numbers that the code has at hand. Assumes nothing.
 use Prim.Native.Nat.{ℕ, _+_}
 use mathlib.Core.Bool.{Bool, cond, not, _&&_, _||_}
 use mathlib.Core.List.{List}
@@ -6,7 +6,7 @@ use lib.Dec.{ltb, leb}
 use lib.ListN.{getD}
 use Rattle.calls.specs.Calls.{transaction, receives, transmits}
 use Rattle.calls.specs.Pieces.{pieceOf}
-use Rattle.calls.specs.Steps.{is}
+use Rattle.calls.specs.Steps.{sameStep}
 use Rattle.calls.specs.declared.Call.{Call}
 use Rattle.calls.specs.declared.SavedCall.{SavedCall}
 use Rattle.calls.specs.declared.Step.the-variants.{Byte}
@@ -19,4 +19,4 @@ readsAt c ops k i = cond (transaction c) (pieceOf (getD ops i 0) .reads) (receiv
 abbrev pub atByte : Call → SavedCall → ℕ → ℕ → Bool
 atByte c s k size =
     leb (s .byte) (size + 1)
-    && (not (is (s .step) Byte) || (ltb (s .byte) size || (transmits c && leb k (s .piece + 1))))
+    && (not (sameStep (s .step) Byte) || (ltb (s .byte) size || (transmits c && leb k (s .piece + 1))))

@@ -4,73 +4,74 @@ ghost use mathlib.Core.Bool.{not, _&&_, _||_};
 ghost use Prim.Native.Nat.{_≤_, max};
 ghost use lib.Dec.{eqb, ltb};
 ghost use lib.ListN.{length};
-ghost use Rattle.calls.specs.Calls.{numberOf, call, transaction, manual, receives, transmits, eventful, isConfigured, hasSecondary};
+ghost use Rattle.calls.specs.Calls.{callNumber, isCall, transaction, manual, receives, transmits, eventful, isConfigured, hasSecondary};
 ghost use Rattle.calls.specs.Pieces.{piecesFor, pieceAt};
-ghost use Rattle.calls.specs.Refusals.{requestOf, modifyGroup, groupOf, hasIn, accepts};
+ghost use Rattle.calls.specs.Refusals.{requestOf, modifyGroup, groupOf, groupTaken, accepts};
+ghost use Rattle.calls.specs.declared.Call.the-variants.{New, TargetNew, ConfigureTargetAddresses, NackTransfer};
 ghost use Rattle.calls.proofs.Fit.{Fit};
 ghost use Rattle.driver.specs.Views.{atByte};
 use crate::view::count;
-use crate::view::moves;
 use crate::view::size_at;
-use access::call::has_configuration;
-use access::call::has_secondary;
-use access::call::is_auto_receiver;
-use access::call::is_call;
-use access::call::is_eventful;
-use access::call::is_manual;
-use access::call::is_transaction;
-use access::call::is_transmitter;
-use access::call::number;
 use calls::Call;
 use calls::Description;
 use calls::Modify;
 use calls::SavedCall;
 use calls::Step;
+use kinds::call::has_configuration;
+use kinds::call::has_secondary;
+use kinds::call::is_auto_receiver;
+use kinds::call::is_call;
+use kinds::call::is_eventful;
+use kinds::call::is_manual;
+use kinds::call::is_transaction;
+use kinds::call::is_transmitter;
+use kinds::call::moves_bytes;
+use kinds::call::number;
 use steps::byte_there;
 use steps::is_byte;
 use steps::is_ended;
 
 // Which steps a call takes, by their groups. The parts of a condition are cheap, so `&` and `|` work all of them out.
-fn either(c: Call, m: u32, n: u32) -> bool
-    ensures { λ r. ⌜ r ≡ (call c m || call c n) ⌝ }
+fn either(c: Call, m: Call, n: Call) -> bool
+    ensures { λ r. ⌜ r ≡ (isCall c m || isCall c n) ⌝ }
 {
     is_call(c, m) | is_call(c, n)
 }
 
-fn any(c: Call, k: u32, m: u32, n: u32) -> bool
-    ensures { λ r. ⌜ r ≡ (call c k || (call c m || call c n)) ⌝ }
+fn any(c: Call, k: Call, m: Call, n: Call) -> bool
+    ensures { λ r. ⌜ r ≡ (isCall c k || (isCall c m || isCall c n)) ⌝ }
 {
     is_call(c, k) | (is_call(c, m) | is_call(c, n))
 }
 
-fn has_starts(c: Call, some: bool) -> bool
-    ensures { λ r. ⌜ r ≡ (transaction c && some) ⌝ }
+fn has_starts(c: Call, nonempty: bool) -> bool
+    ensures { λ r. ⌜ r ≡ (transaction c && nonempty) ⌝ }
 {
-    is_transaction(c) & some
+    is_transaction(c) & nonempty
 }
 
-fn has_move(c: Call, some: bool) -> bool
-    ensures { λ r. ⌜ r ≡ ((transaction c || (receives c || transmits c)) && some) ⌝ }
+fn has_move(c: Call, nonempty: bool) -> bool
+    ensures { λ r. ⌜ r ≡ ((transaction c || (receives c || transmits c)) && nonempty) ⌝ }
 {
-    (is_transaction(c) | moves(c)) & some
+    (is_transaction(c) | moves_bytes(c)) & nonempty
 }
 
-fn has_errors(c: Call, some: bool) -> bool
-    ensures { λ r. ⌜ r ≡ (eventful c || ((transaction c || (receives c || transmits c)) && some)) ⌝ }
+fn has_errors(c: Call, nonempty: bool) -> bool
+    ensures { λ r. ⌜ r ≡ (eventful c || ((transaction c || (receives c || transmits c)) && nonempty)) ⌝ }
 {
-    is_eventful(c) | has_move(c, some)
+    is_eventful(c) | has_move(c, nonempty)
 }
 
-fn has_nack(c: Call, some: bool) -> bool
-    ensures { λ r. ⌜ r ≡ ((transaction c || transmits c) && some) ⌝ }
+fn has_nack(c: Call, nonempty: bool) -> bool
+    ensures { λ r. ⌜ r ≡ ((transaction c || transmits c) && nonempty) ⌝ }
 {
-    (is_transaction(c) | is_transmitter(c)) & some
+    (is_transaction(c) | is_transmitter(c)) & nonempty
 }
 
-fn has_blocks(c: Call, some: bool) -> bool
-    ensures { λ r. ⌜ r ≡ ((manual c && (receives c || transmits c)) && some) ⌝ }
+fn has_blocks(c: Call, nonempty: bool) -> bool
+    ensures { λ r. ⌜ r ≡ ((manual c && (receives c || transmits c)) && nonempty) ⌝ }
 {
-    (is_manual(c) & moves(c)) & some
+    (is_manual(c) & moves_bytes(c)) & nonempty
 }
 
 fn has_manual_events(c: Call) -> bool
@@ -79,81 +80,88 @@ fn has_manual_events(c: Call) -> bool
     is_manual(c) & is_eventful(c)
 }
 
-fn has_stop(c: Call, some: bool) -> bool
-    ensures { λ r. ⌜ r ≡ (eventful c || (transaction c && some)) ⌝ }
+fn has_stop(c: Call, nonempty: bool) -> bool
+    ensures { λ r. ⌜ r ≡ (eventful c || (transaction c && nonempty)) ⌝ }
 {
-    is_eventful(c) | (is_transaction(c) & some)
+    is_eventful(c) | (is_transaction(c) & nonempty)
 }
 
 fn has_own(c: Call, d: Description) -> bool
-    ensures { λ r. ⌜ r ≡ (call c 3 || ((call c 1 || call c 2) && isConfigured (d .config))) ⌝ }
+    ensures { λ r. ⌜ r ≡ (isCall c ConfigureTargetAddresses || ((isCall c New || isCall c TargetNew) && isConfigured (d .config))) ⌝ }
 {
     let config = d.config;
-    is_call(c, 3) | (either(c, 1, 2) & has_configuration(config))
+    is_call(c, Call::ConfigureTargetAddresses)
+        | (either(c, Call::New, Call::TargetNew) & has_configuration(config))
 }
 
 fn has_second(c: Call, d: Description) -> bool
-    ensures { λ r. ⌜ r ≡ ((call c 1 || (call c 2 || call c 3)) && hasSecondary (d .config)) ⌝ }
+    ensures { λ r. ⌜ r ≡ ((isCall c New || (isCall c TargetNew || isCall c ConfigureTargetAddresses)) && hasSecondary (d .config)) ⌝ }
 {
     let config = d.config;
-    any(c, 1, 2, 3) & has_secondary(config)
+    any(
+        c,
+        Call::New,
+        Call::TargetNew,
+        Call::ConfigureTargetAddresses,
+    )
+        & has_secondary(config)
 }
 
-fn has_nack_set(c: Call, some: bool) -> bool
-    ensures { λ r. ⌜ r ≡ (call c 15 || ((receives c && not (manual c)) && some)) ⌝ }
+fn has_nack_set(c: Call, nonempty: bool) -> bool
+    ensures { λ r. ⌜ r ≡ (isCall c NackTransfer || ((receives c && not (manual c)) && nonempty)) ⌝ }
 {
-    is_call(c, 15) | (is_auto_receiver(c) & some)
+    is_call(c, Call::NackTransfer) | (is_auto_receiver(c) & nonempty)
 }
 
-fn takes_modify(c: Call, d: Description, some: bool, m: Modify) -> bool
-    ensures { λ r. ⌜ r ≡ hasIn c d some (modifyGroup m) ⌝ }
+fn takes_modify(c: Call, d: Description, nonempty: bool, m: Modify) -> bool
+    ensures { λ r. ⌜ r ≡ groupTaken c d nonempty (modifyGroup m) ⌝ }
 {
     match m {
-        Modify::PeOff => any(c, 1, 2, 6),
-        Modify::PeOn => either(c, 2, 6),
-        Modify::Listen => either(c, 4, 5),
-        Modify::NackSet => has_nack_set(c, some),
-        Modify::ReloadOff => either(c, 14, 15),
+        Modify::PeOff => any(c, Call::New, Call::TargetNew, Call::Reset),
+        Modify::PeOn => either(c, Call::TargetNew, Call::Reset),
+        Modify::Listen => either(c, Call::EnableTargetEvent, Call::DisableTargetEvent),
+        Modify::NackSet => has_nack_set(c, nonempty),
+        Modify::ReloadOff => either(c, Call::AckTransfer, Call::NackTransfer),
         Modify::SbcOff => has_manual_events(c),
         Modify::ReloadClear => has_manual_events(c),
         Modify::SbcOn => has_manual_events(c),
         Modify::ReloadOn => has_manual_events(c),
-        Modify::NbytesSet => has_blocks(c, some),
+        Modify::NbytesSet => has_blocks(c, nonempty),
     }
 }
 
-fn takes(c: Call, d: Description, some: bool, t: Step) -> bool
-    ensures { λ r. ⌜ r ≡ hasIn c d some (groupOf t) ⌝ }
+fn takes(c: Call, d: Description, nonempty: bool, t: Step) -> bool
+    ensures { λ r. ⌜ r ≡ groupTaken c d nonempty (groupOf t) ⌝ }
 {
     match t {
         Step::Ended => true,
-        Step::Begin => has_starts(c, some),
-        Step::StartStatus => has_starts(c, some),
-        Step::StartControl => has_starts(c, some),
-        Step::Wait => has_move(c, some),
-        Step::Byte => has_move(c, some),
-        Step::StopClear => has_stop(c, some),
-        Step::BusClear => has_errors(c, some),
-        Step::ArbitrationClear => has_errors(c, some),
-        Step::NackClear => has_nack(c, some),
-        Step::FlushTxis => has_nack(c, some),
-        Step::FlushByte => has_nack(c, some),
-        Step::FlushTxe => has_nack(c, some),
-        Step::Flush => has_nack(c, some),
-        Step::Timing => either(c, 1, 2),
+        Step::Begin => has_starts(c, nonempty),
+        Step::StartStatus => has_starts(c, nonempty),
+        Step::StartControl => has_starts(c, nonempty),
+        Step::Wait => has_move(c, nonempty),
+        Step::Byte => has_move(c, nonempty),
+        Step::StopClear => has_stop(c, nonempty),
+        Step::BusClear => has_errors(c, nonempty),
+        Step::ArbitrationClear => has_errors(c, nonempty),
+        Step::NackClear => has_nack(c, nonempty),
+        Step::FlushTxis => has_nack(c, nonempty),
+        Step::FlushByte => has_nack(c, nonempty),
+        Step::FlushTxe => has_nack(c, nonempty),
+        Step::Flush => has_nack(c, nonempty),
+        Step::Timing => either(c, Call::New, Call::TargetNew),
         Step::Own => has_own(c, d),
         Step::Secondary => has_second(c, d),
-        Step::Enable => is_call(c, 1),
-        Step::Delay1 => is_call(c, 6),
-        Step::Delay2 => is_call(c, 6),
-        Step::Disabled => is_call(c, 6),
+        Step::Enable => is_call(c, Call::New),
+        Step::Delay1 => is_call(c, Call::Reset),
+        Step::Delay2 => is_call(c, Call::Reset),
+        Step::Disabled => is_call(c, Call::Reset),
         Step::Event => is_eventful(c),
         Step::EventFlush => is_eventful(c),
         Step::EventClear => is_eventful(c),
         Step::Address => is_eventful(c),
-        Step::TransferClear => has_blocks(c, some),
-        Step::ModifyRead(m) => takes_modify(c, d, some, m),
-        Step::ModifyWrite(m) => takes_modify(c, d, some, m),
+        Step::TransferClear => has_blocks(c, nonempty),
+        Step::ModifyRead(m) => takes_modify(c, d, nonempty, m),
+        Step::ModifyWrite(m) => takes_modify(c, d, nonempty, m),
     }
 }
 
@@ -164,7 +172,7 @@ fn at_least_one(k: u32) -> u32
 }
 
 fn is_of(s: SavedCall, c: Call) -> bool
-    ensures { λ r. ⌜ r ≡ eqb (s .call) (numberOf c) ⌝ }
+    ensures { λ r. ⌜ r ≡ eqb (s .call) (callNumber c) ⌝ }
 {
     s.call == number(c)
 }

@@ -4,7 +4,7 @@ ghost use mathlib.Core.Path.{_≡_};
 ghost use Prim.Native.Nat.{_/_};
 ghost use lib.ListN.{length};
 ghost use Rattle.calls.specs.Refusals.{requestOf, checkOf};
-ghost use Rattle.calls.specs.Run.{noCall, begunOf, runBy, asFinal, finalBy, finalOf};
+ghost use Rattle.calls.specs.Run.{begunOf, runBy, asFinal, finalBy, finalOf};
 ghost use Rattle.calls.specs.Steps.{beginOf};
 ghost use Rattle.calls.specs.declared.Verdict.the-variants.{Accepted};
 ghost use Rattle.driver.specs.Next.{nextBy, nextFor};
@@ -14,32 +14,16 @@ use calls::Begun;
 use calls::Call;
 use calls::Description;
 use calls::Next;
-use calls::Outcome;
 use calls::Refusal;
 use calls::Report;
 use calls::SavedCall;
-use calls::Step;
 use calls::Verdict;
+use kinds::saved_call;
 
 mod accept;
 mod quick;
 mod run;
 mod view;
-
-// What a refused begin hands out; no advance takes it.
-fn no_call() -> SavedCall
-    ensures { λ r. ⌜ r ≡ noCall ⌝ }
-{
-    SavedCall {
-        call: 0,
-        piece: 0,
-        byte: 0,
-        word: 0,
-        accesses: 0,
-        outcome: Outcome::Done(0),
-        step: Step::Ended,
-    }
-}
 
 // A call that the description names, at its beginning.
 fn begin_call(c: Call, d: Description, ops: &[u32], n: u32) -> SavedCall
@@ -61,7 +45,7 @@ pub fn begin(d: Description, ops: &[u32], buffer: &[u8]) -> Begun
             verdict: Verdict::Accepted(c),
         },
         Verdict::Refused(why) => Begun {
-            saved: no_call(),
+            saved: saved_call::no_call(),
             verdict: Verdict::Refused(why),
         },
     }

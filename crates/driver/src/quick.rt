@@ -7,15 +7,15 @@ ghost use Prim.Native.Nat.{ℕ, _+_, _≤_, _<_};
 ghost use lib.Dec.{eqb, ltb};
 ghost use lib.ListN.{length};
 ghost use Rattle.calls.specs.Outcomes.{isDone};
-ghost use Rattle.calls.specs.Steps.{is};
+ghost use Rattle.calls.specs.Steps.{sameStep};
 ghost use Rattle.calls.specs.declared.Step.the-variants.{Wait, Byte};
 ghost use Rattle.steps.specs.Bounds.{Small};
 ghost use Rattle.driver.specs.Turn.{quickly, passed, movedBy, Quickly};
 use crate::run;
-use access::call;
 use calls::SavedCall;
 use calls::Step;
 use calls::View;
+use kinds::outcome;
 use registers::Register;
 
 // Whether the turn was made, the answers used, and what the saved call changes to.
@@ -74,13 +74,13 @@ fn is_ready(v: View, s: SavedCall, flags: u32) -> bool
     ensures { λ r. ⌜ r ≡ (eqb flags (cond (v .reads) 2 1) && (isDone (s .outcome) && ltb (s .byte) (v .size))) ⌝ }
 {
     let o = s.outcome;
-    (flags == awaited_flags(v)) & (call::is_done(o) & (s.byte < v.size))
+    (flags == awaited_flags(v)) & (outcome::is_done(o) & (s.byte < v.size))
 }
 
 // ISR's bits 1 to 9 are all the flags that a wait looks at, TXIS to ARLO. With none of them it goes on, with just the awaited
 // one its byte is next.
 fn wait(v: View, s: SavedCall, answers: &[u32], used: usize, log: &mut [u32], at: usize) -> Quick
-    requires { ⌜ (at + 2 ≤ length (now log)) × (is (s .step) Wait ≡ true) ⌝ }
+    requires { ⌜ (at + 2 ≤ length (now log)) × (sameStep (s .step) Wait ≡ true) ⌝ }
     ensures { λ r. ⌜ ((b : List ℕ) → Quickly v s b (now (answers .entry)) used (now (log .entry)) at r b (now (log .exit))) ⌝ }
 {
     if used < answers.len() {
@@ -107,7 +107,7 @@ fn take(
     log: &mut [u32],
     at: usize,
 ) -> Quick
-    requires { ⌜ (at + 2 ≤ length (now log)) × (is (s .step) Byte ≡ true) × (s .byte + 1 < v .size) × (v .reads ≡ true) ⌝ }
+    requires { ⌜ (at + 2 ≤ length (now log)) × (sameStep (s .step) Byte ≡ true) × (s .byte + 1 < v .size) × (v .reads ≡ true) ⌝ }
     ensures { λ r. ⌜ Quickly v s (now (buffer .entry)) (now (answers .entry)) used (now (log .entry)) at r (now (buffer .exit)) (now (log .exit)) ⌝ }
 {
     if used < answers.len() {
@@ -120,7 +120,7 @@ fn take(
 }
 
 fn put(v: View, s: SavedCall, buffer: &[u8], used: usize, log: &mut [u32], at: usize) -> Quick
-    requires { ⌜ (at + 2 ≤ length (now log)) × (is (s .step) Byte ≡ true) × (s .byte + 1 < v .size) × (v .reads ≡ false) ⌝ }
+    requires { ⌜ (at + 2 ≤ length (now log)) × (sameStep (s .step) Byte ≡ true) × (s .byte + 1 < v .size) × (v .reads ≡ false) ⌝ }
     ensures { λ r. ⌜ ((l : List ℕ) → Quickly v s (now (buffer .entry)) l used (now (log .entry)) at r (now (buffer .entry)) (now (log .exit))) ⌝ }
 {
     let value = access::byte_out(v, buffer, s);
@@ -138,7 +138,7 @@ fn byte(
     log: &mut [u32],
     at: usize,
 ) -> Quick
-    requires { ⌜ (at + 2 ≤ length (now log)) × Small s × (is (s .step) Byte ≡ true) ⌝ }
+    requires { ⌜ (at + 2 ≤ length (now log)) × Small s × (sameStep (s .step) Byte ≡ true) ⌝ }
     ensures { λ r. ⌜ Quickly v s (now (buffer .entry)) (now (answers .entry)) used (now (log .entry)) at r (now (buffer .exit)) (now (log .exit)) ⌝ }
 {
     if (s.byte + 1 < v.size) && (access::place(v, s) < buffer.len()) {

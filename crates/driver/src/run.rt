@@ -10,7 +10,7 @@ ghost use Rattle.calls.specs.Run.{byteOf, advanceFrom, asFinal, finalBy};
 ghost use Rattle.registers.specs.Map.{offsetOf};
 ghost use Rattle.calls.proofs.Fit.{Fit};
 ghost use Rattle.steps.specs.Bounds.{Small};
-ghost use Rattle.driver.specs.Turn.{stayed, went, asMade, madeOf, asTurn, turnOf};
+ghost use Rattle.driver.specs.Turn.{stayed, went, asMade, madeOf, asTurn, turnLeft};
 use crate::quick;
 use crate::view;
 use calls::Access;
@@ -24,7 +24,7 @@ use registers::Register;
 use registers::Rxdr;
 
 // What a turn finds: whether there is an access to make, the report where there is none, and the answer to a read.
-pub struct Found {
+pub struct Attempt {
     pub going: bool,
     pub report: Report,
     pub used: usize,
@@ -62,10 +62,10 @@ pub fn write_code(r: Register) -> u32
     r.offset() + 0x100
 }
 
-fn stays(report: Report, used: usize) -> Found
+fn stays(report: Report, used: usize) -> Attempt
     ensures { λ r. ⌜ r ≡ stayed report used ⌝ }
 {
-    Found {
+    Attempt {
         going: false,
         report,
         used,
@@ -73,10 +73,10 @@ fn stays(report: Report, used: usize) -> Found
     }
 }
 
-fn goes(used: usize, answer: u32) -> Found
+fn goes(used: usize, answer: u32) -> Attempt
     ensures { λ r. ⌜ r ≡ went used answer ⌝ }
 {
-    Found {
+    Attempt {
         going: true,
         report: Report::Full,
         used,
@@ -101,7 +101,7 @@ fn make(
     used: usize,
     log: &mut [u32],
     at: usize,
-) -> Found
+) -> Attempt
     requires { ⌜ at + 2 ≤ length (now log) ⌝ }
     ensures { λ r. ⌜ asMade r (now (buffer .exit)) (now (log .exit)) ≡ madeOf c d v s (now (buffer .entry)) (now (answers .entry)) used (now (log .entry)) at ⌝ }
 {
@@ -119,7 +119,7 @@ fn make(
                 note(log, at, r.offset(), a);
                 return goes(used + 1, a);
             }
-            stays(Report::Waiting, used)
+            stays(Report::Waiting(r), used)
         }
         Access::Take(i) => {
             if has_answer(answers, used) {
@@ -128,7 +128,7 @@ fn make(
                 keep(buffer, i, a);
                 return goes(used + 1, a);
             }
-            stays(Report::Waiting, used)
+            stays(Report::Waiting(Register::Rxdr), used)
         }
     }
 }
@@ -146,7 +146,7 @@ fn turn(
     at: usize,
 ) -> Turned
     requires { ⌜ (at + 2 ≤ length (now log)) × Small s × (v .size ≤ 65535) ⌝ }
-    ensures { λ r. ⌜ asTurn r (now (buffer .exit)) (now (log .exit)) ≡ turnOf c d v s (now (buffer .entry)) (now (answers .entry)) used (now (log .entry)) at ⌝ }
+    ensures { λ r. ⌜ asTurn r (now (buffer .exit)) (now (log .exit)) ≡ turnLeft c d v s (now (buffer .entry)) (now (answers .entry)) used (now (log .entry)) at ⌝ }
 {
     let found = make(c, d, v, s, buffer, answers, used, log, at);
     let report = found.report;

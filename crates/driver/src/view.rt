@@ -6,18 +6,18 @@ ghost use mathlib.Core.List.{map};
 ghost use Prim.Native.Nat.{_+_, _-_, _*_, _/_, _≤_, min};
 ghost use lib.Dec.{eqb, ltb};
 ghost use lib.ListN.{length, getD};
-ghost use Rattle.calls.specs.Calls.{receives, transmits};
-ghost use Rattle.calls.specs.Pieces.{pieceOf, piecesFor, pieceAt, startFrom, viewAt, there};
+ghost use Rattle.calls.specs.Pieces.{pieceOf, piecesFor, pieceAt, startFrom, viewAt, byteThere};
 ghost use Rattle.calls.specs.Refusals.{total};
 ghost use Rattle.calls.proofs.Fit.{Fit};
 ghost use Rattle.driver.specs.Views.{readsAt};
-use access::call::is_manual;
-use access::call::is_receiver;
-use access::call::is_transaction;
-use access::call::is_transmitter;
 use calls::Call;
 use calls::SavedCall;
 use calls::View;
+use kinds::call::is_manual;
+use kinds::call::is_receiver;
+use kinds::call::is_transaction;
+use kinds::call::moves_bytes;
+use kinds::operation;
 
 // An operation of the list, and what its word says; past the end it is 0, which is a write of no byte.
 fn op_at(ops: &[u32], i: u32) -> u32
@@ -30,19 +30,13 @@ fn op_at(ops: &[u32], i: u32) -> u32
 fn op_length(ops: &[u32], i: u32) -> u32
     ensures { λ r. ⌜ r ≡ pieceOf (getD (now (ops .entry)) i 0) .size ⌝ }
 {
-    fields::get(op_at(ops, i), 0, 16)
+    operation::length(op_at(ops, i))
 }
 
 fn op_reads(ops: &[u32], i: u32) -> bool
     ensures { λ r. ⌜ r ≡ pieceOf (getD (now (ops .entry)) i 0) .reads ⌝ }
 {
-    fields::flag(op_at(ops, i), 16)
-}
-
-pub fn moves(c: Call) -> bool
-    ensures { λ r. ⌜ r ≡ (receives c || transmits c) ⌝ }
-{
-    is_receiver(c) | is_transmitter(c)
+    operation::is_read(op_at(ops, i))
 }
 
 fn block_size(n: u32, i: u32) -> u32
@@ -63,7 +57,7 @@ pub fn size_at(c: Call, ops: &[u32], n: u32, i: u32) -> u32
     if is_transaction(c) {
         return op_length(ops, i);
     }
-    if moves(c) {
+    if moves_bytes(c) {
         if is_manual(c) {
             return block_size(n, i);
         }
@@ -81,7 +75,7 @@ pub fn count(c: Call, ops: &[u32], n: u32) -> u32
     if is_transaction(c) {
         return ops.len() as u32;
     }
-    if moves(c) {
+    if moves_bytes(c) {
         if is_manual(c) {
             return (n + 254) / 255;
         }
@@ -136,7 +130,7 @@ fn start_at(c: Call, ops: &[u32], n: u32, i: u32) -> u32
     if is_transaction(c) {
         return ops_start(ops, i);
     }
-    if moves(c) {
+    if moves_bytes(c) {
         if is_manual(c) {
             return block_start(n, i);
         }
@@ -182,7 +176,7 @@ fn view_from(c: Call, ops: &[u32], n: u32, i: u32, start: u32) -> View
         last: k <= i + 1,
         same,
         reload,
-        some: 0 < k,
+        nonempty: 0 < k,
     }
 }
 

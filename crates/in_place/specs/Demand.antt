@@ -7,7 +7,7 @@ use Rattle.calls.specs.Run.{finalOf}
 use Rattle.calls.specs.declared.Description.{Description}
 use Rattle.calls.specs.declared.SavedCall.{SavedCall}
 use Rattle.driver.specs.Demand.{Advancing}
-use Rattle.in_place.specs.InPlace.{joined, inPlace}
+use Rattle.in_place.specs.InPlace.{asAdvanced, inPlace}
 use Rattle.in_place.specs.declared.Progress.{Progress}
 
 -- A call of `advance_in_place` that came back: what it was lent, what it said, the saved call, the buffer and the log as it
@@ -37,7 +37,7 @@ byValue C =
             buffer = C .buffer;
             answers = C .answers;
             log = C .log;
-            result = joined (C .progress) (C .savedLeft);
+            result = asAdvanced (C .progress) (C .savedLeft);
             bufferLeft = C .bufferLeft;
             logLeft = C .logLeft;
           };

@@ -39,7 +39,7 @@ outcomeWord EventStop = codes "event-stop"
 -- `full` is no outcome word: a whole run is never full
 abbrev pub reportWord : Report → List ℕ
 reportWord (Over o) = outcomeWord o
-reportWord Waiting = codes "waiting"
+reportWord (Waiting r) = codes "waiting"
 reportWord (Refused r) = codes "refused"
 reportWord Full = codes "full"
 

@@ -1,15 +1,14 @@
 // The lines that the bench prints, each put into a window on the whole text.
 ghost use mathlib.Core.Path.{_≡_};
-ghost use Rattle.calls.specs.Outcomes.{outcomeValue, refusalNumber, reportValue};
 ghost use Rattle.numerals.specs.Numbers.{hexOf, decimalOf};
 ghost use Rattle.window.specs.Window.{laid, emitOf};
 ghost use Rattle.lines.specs.Lines.{space, newline, numberField, outcomeWord, reportWord, callStart, callLine, letterOf, accessLine, accessLines, bytesText, fullBuffer, bufferLine, refusalLine};
 use calls::Outcome;
-use calls::Refusal;
 use calls::Report;
-use window::Place;
+use kinds::report;
+use window::Cursor;
 
-fn put_outcome(p: Place, o: Outcome, out: &mut [u8]) -> Place
+fn put_outcome(p: Cursor, o: Outcome, out: &mut [u8]) -> Cursor
     ensures { λ r. ⌜ laid r (now (out .exit)) ≡ emitOf (outcomeWord o) (laid p (now (out .entry))) ⌝ }
 {
     match o {
@@ -26,99 +25,58 @@ fn put_outcome(p: Place, o: Outcome, out: &mut [u8]) -> Place
     }
 }
 
-fn put_report(p: Place, r: Report, out: &mut [u8]) -> Place
+fn put_report(p: Cursor, r: Report, out: &mut [u8]) -> Cursor
     ensures { λ q. ⌜ laid q (now (out .exit)) ≡ emitOf (reportWord r) (laid p (now (out .entry))) ⌝ }
 {
     match r {
         Report::Over(o) => put_outcome(p, o, out),
-        Report::Waiting => window::put_all(p, b"waiting", out),
+        Report::Waiting(_) => window::put_all(p, b"waiting", out),
         Report::Refused(_) => window::put_all(p, b"refused", out),
         Report::Full => window::put_all(p, b"full", out),
     }
 }
 
-fn refusal_number(r: Refusal) -> u32
-    ensures { λ n. ⌜ n ≡ refusalNumber r ⌝ }
-{
-    match r {
-        Refusal::Address => 8,
-        Refusal::Long => 9,
-        Refusal::List => 10,
-        Refusal::Buffer => 11,
-        Refusal::NoSuchCall => 12,
-        Refusal::SavedCall => 13,
-    }
-}
-
-fn outcome_value(o: Outcome) -> u32
-    ensures { λ n. ⌜ n ≡ outcomeValue o ⌝ }
-{
-    match o {
-        Outcome::Done(n) => n,
-        Outcome::Bus => 0,
-        Outcome::Arbitration => 0,
-        Outcome::Nack => 0,
-        Outcome::Stopped => 0,
-        Outcome::ExpectedWrite => 0,
-        Outcome::ExpectedRead => 0,
-        Outcome::EventRead(address) => address,
-        Outcome::EventWrite(address) => address,
-        Outcome::EventStop => 0,
-    }
-}
-
-fn report_value(r: Report) -> u32
-    ensures { λ n. ⌜ n ≡ reportValue r ⌝ }
-{
-    match r {
-        Report::Over(o) => outcome_value(o),
-        Report::Waiting => 0,
-        Report::Refused(why) => refusal_number(why),
-        Report::Full => 0,
-    }
-}
-
-fn put_decimal(p: Place, n: u64, out: &mut [u8]) -> Place
+fn put_decimal(p: Cursor, n: u64, out: &mut [u8]) -> Cursor
     ensures { λ r. ⌜ laid r (now (out .exit)) ≡ emitOf (decimalOf n) (laid p (now (out .entry))) ⌝ }
 {
     let digits = numerals::digits(n);
     window::put_all(p, numerals::significant(&digits), out)
 }
 
-fn put_byte(p: Place, b: u8, out: &mut [u8]) -> Place
+fn put_byte(p: Cursor, b: u8, out: &mut [u8]) -> Cursor
     ensures { λ r. ⌜ laid r (now (out .exit)) ≡ emitOf (hexOf 2 b) (laid p (now (out .entry))) ⌝ }
 {
     let digits = numerals::hex_byte(b);
     window::put_all(p, &digits, out)
 }
 
-fn put_word(p: Place, n: u32, out: &mut [u8]) -> Place
+fn put_word(p: Cursor, n: u32, out: &mut [u8]) -> Cursor
     ensures { λ r. ⌜ laid r (now (out .exit)) ≡ emitOf (hexOf 8 n) (laid p (now (out .entry))) ⌝ }
 {
     let digits = numerals::hex(n);
     window::put_all(p, &digits, out)
 }
 
-fn put_space(p: Place, out: &mut [u8]) -> Place
+fn put_space(p: Cursor, out: &mut [u8]) -> Cursor
     ensures { λ r. ⌜ laid r (now (out .exit)) ≡ emitOf space (laid p (now (out .entry))) ⌝ }
 {
     window::put_all(p, b" ", out)
 }
 
-fn put_newline(p: Place, out: &mut [u8]) -> Place
+fn put_newline(p: Cursor, out: &mut [u8]) -> Cursor
     ensures { λ r. ⌜ laid r (now (out .exit)) ≡ emitOf newline (laid p (now (out .entry))) ⌝ }
 {
     window::put_all(p, b"\n", out)
 }
 
-fn put_number_field(p: Place, n: u64, out: &mut [u8]) -> Place
+fn put_number_field(p: Cursor, n: u64, out: &mut [u8]) -> Cursor
     ensures { λ r. ⌜ laid r (now (out .exit)) ≡ emitOf (numberField n) (laid p (now (out .entry))) ⌝ }
 {
     let p = put_space(p, out);
     put_decimal(p, n, out)
 }
 
-fn put_call_start(p: Place, n: u32, r: Report, out: &mut [u8]) -> Place
+fn put_call_start(p: Cursor, n: u32, r: Report, out: &mut [u8]) -> Cursor
     ensures { λ q. ⌜ laid q (now (out .exit)) ≡ emitOf (callStart n r) (laid p (now (out .entry))) ⌝ }
 {
     let p = put_decimal(p, n as u64, out);
@@ -127,17 +85,24 @@ fn put_call_start(p: Place, n: u32, r: Report, out: &mut [u8]) -> Place
 }
 
 // The line of a call: its number, what came of it, the answers used and the accesses made.
-pub fn put_call(p: Place, n: u32, r: Report, used: usize, accesses: usize, out: &mut [u8]) -> Place
+pub fn put_call(
+    p: Cursor,
+    n: u32,
+    r: Report,
+    used: usize,
+    accesses: usize,
+    out: &mut [u8],
+) -> Cursor
     ensures { λ q. ⌜ laid q (now (out .exit)) ≡ emitOf (callLine n r used accesses) (laid p (now (out .entry))) ⌝ }
 {
     let p = put_call_start(p, n, r, out);
-    let p = put_number_field(p, report_value(r) as u64, out);
+    let p = put_number_field(p, report::value(r) as u64, out);
     let p = put_number_field(p, used as u64, out);
     let p = put_number_field(p, accesses as u64, out);
     put_newline(p, out)
 }
 
-fn put_letter(p: Place, offset: u32, out: &mut [u8]) -> Place
+fn put_letter(p: Cursor, offset: u32, out: &mut [u8]) -> Cursor
     ensures { λ r. ⌜ laid r (now (out .exit)) ≡ emitOf (letterOf offset) (laid p (now (out .entry))) ⌝ }
 {
     if offset < 0x100 {
@@ -147,7 +112,7 @@ fn put_letter(p: Place, offset: u32, out: &mut [u8]) -> Place
     }
 }
 
-fn put_access(p: Place, offset: u32, value: u32, out: &mut [u8]) -> Place
+fn put_access(p: Cursor, offset: u32, value: u32, out: &mut [u8]) -> Cursor
     ensures { λ r. ⌜ laid r (now (out .exit)) ≡ emitOf (accessLine offset value) (laid p (now (out .entry))) ⌝ }
 {
     let p = put_letter(p, offset, out);
@@ -158,7 +123,7 @@ fn put_access(p: Place, offset: u32, value: u32, out: &mut [u8]) -> Place
 }
 
 // The lines of the entries that stand in a log's words.
-pub fn put_accesses(p: Place, log: &[u32], out: &mut [u8]) -> Place
+pub fn put_accesses(p: Cursor, log: &[u32], out: &mut [u8]) -> Cursor
     ensures { λ r. ⌜ laid r (now (out .exit)) ≡ emitOf (accessLines (now (log .entry))) (laid p (now (out .entry))) ⌝ }
 {
     let mut q = p;
@@ -170,7 +135,7 @@ pub fn put_accesses(p: Place, log: &[u32], out: &mut [u8]) -> Place
     q
 }
 
-fn put_bytes(p: Place, bytes: &[u8], out: &mut [u8]) -> Place
+fn put_bytes(p: Cursor, bytes: &[u8], out: &mut [u8]) -> Cursor
     ensures { λ r. ⌜ laid r (now (out .exit)) ≡ emitOf (bytesText (now (bytes .entry))) (laid p (now (out .entry))) ⌝ }
 {
     let mut q = p;
@@ -182,7 +147,7 @@ fn put_bytes(p: Place, bytes: &[u8], out: &mut [u8]) -> Place
     q
 }
 
-fn put_full_buffer(p: Place, bytes: &[u8], out: &mut [u8]) -> Place
+fn put_full_buffer(p: Cursor, bytes: &[u8], out: &mut [u8]) -> Cursor
     ensures { λ r. ⌜ laid r (now (out .exit)) ≡ emitOf (fullBuffer (now (bytes .entry))) (laid p (now (out .entry))) ⌝ }
 {
     let p = window::put_all(p, b"b ", out);
@@ -191,7 +156,7 @@ fn put_full_buffer(p: Place, bytes: &[u8], out: &mut [u8]) -> Place
 }
 
 // The line of a buffer.
-pub fn put_buffer(p: Place, bytes: &[u8], out: &mut [u8]) -> Place
+pub fn put_buffer(p: Cursor, bytes: &[u8], out: &mut [u8]) -> Cursor
     ensures { λ r. ⌜ laid r (now (out .exit)) ≡ emitOf (bufferLine (now (bytes .entry))) (laid p (now (out .entry))) ⌝ }
 {
     if bytes.len() == 0 {
@@ -202,7 +167,7 @@ pub fn put_buffer(p: Place, bytes: &[u8], out: &mut [u8]) -> Place
 }
 
 // What is printed of a file that is no bench file.
-pub fn put_refusal(p: Place, out: &mut [u8]) -> Place
+pub fn put_refusal(p: Cursor, out: &mut [u8]) -> Cursor
     ensures { λ r. ⌜ laid r (now (out .exit)) ≡ emitOf refusalLine (laid p (now (out .entry))) ⌝ }
 {
     window::put_all(p, b"file 14\n", out)

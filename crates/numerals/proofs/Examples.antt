@@ -7,7 +7,7 @@ use mathlib.Core.Path.{_≡_, refl}
 use mathlib.Core.List.{List, [], _∷_, map}
 use lib.ListN.{replicate}
 use Rattle.numerals.specs.Numbers.{digitOf, numberOf, isHex, parsedOf, hexDigitOf, spelledOf, hexOf, significantOf, decimalOf}
-use Rattle.numerals.specs.Words.{isBlank, wordOf, afterWord}
+use Rattle.numerals.specs.Words.{isBlank, firstWord, afterWord}
 use Rattle.numerals.specs.declared.Parsed.{Parsed}
 use Rattle.numerals.specs.declared.Parsed.the-variants.{Number, NotNumber}
 
@@ -34,7 +34,7 @@ decimal : map decimalOf (0 ∷ 7 ∷ 10 ∷ 4294967295 ∷ 18446744073709551615 
 unfolding spelledOf hexDigitOf significantOf
 decimal = refl
 
-word : wordOf (codes " 8000000\t400000") ≡ codes "8000000"
+word : firstWord (codes " 8000000\t400000") ≡ codes "8000000"
 unfolding isBlank
 word = refl
 

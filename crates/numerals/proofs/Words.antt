@@ -7,7 +7,7 @@ use native.Mathlib.Omega.{arith}
 use lib.ListN.{length, getD, take, drop, length-append, drop-of-length-le}
 use lib.Seq.{take-all, take-at}
 use borrow.Author.Tests.{not-true, not-false}
-use Rattle.numerals.specs.Words.{isBlank, blankIs, takeWhile, dropWhile, wordOf, afterWord}
+use Rattle.numerals.specs.Words.{isBlank, blankIs, takeWhile, dropWhile, firstWord, afterWord}
 
 module _ (p : ℕ → Bool) where
   first-left : (s : List ℕ) → p (getD s 0 0) ≡ false → s ≡ dropWhile p s
@@ -35,11 +35,11 @@ module _ (p : ℕ → Bool) where
   front : (s rest : List ℕ) → rest ≡ dropWhile p s → take (length s - length rest) s ≡ takeWhile p s
   front s rest h = rw h (rw (whole s) at (take-at (takeWhile p s) (dropWhile p s) (length s - length (dropWhile p s)) (omega (arith, lengths s))))
 
-pub first-word : (s start rest : List ℕ) → start ≡ dropWhile (blankIs true) s → rest ≡ dropWhile (blankIs false) start → take (length start - length rest) start ≡ wordOf s
+pub first-word : (s start rest : List ℕ) → start ≡ dropWhile (blankIs true) s → rest ≡ dropWhile (blankIs false) start → take (length start - length rest) start ≡ firstWord s
 first-word s start rest h l = rw (front (blankIs false) start rest l) (cc)
 
 -- a caller's loop over the words of a text ends
-pub falls : (s : List ℕ) → 0 < length (wordOf s) → length (afterWord s) < length s
+pub falls : (s : List ℕ) → 0 < length (firstWord s) → length (afterWord s) < length s
 falls s h = omega (arith, lengths (blankIs false) (dropWhile (blankIs true) s), lengths (blankIs true) s)
 
 -- a turn of the loop over the bytes that are blanks, or that are none

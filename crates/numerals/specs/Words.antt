@@ -23,8 +23,8 @@ dropWhile p [] = []
 dropWhile p (b ∷ s) = cond (p b) (dropWhile p s) (b ∷ s)
 
 -- the first word, empty where there is none
-abbrev pub wordOf : List ℕ → List ℕ
-wordOf s = takeWhile (blankIs false) (dropWhile (blankIs true) s)
+abbrev pub firstWord : List ℕ → List ℕ
+firstWord s = takeWhile (blankIs false) (dropWhile (blankIs true) s)
 
 -- what follows the first word
 abbrev pub afterWord : List ℕ → List ℕ

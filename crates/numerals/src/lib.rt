@@ -3,7 +3,7 @@ ghost use mathlib.Core.Path.{_≡_};
 ghost use Prim.Native.Nat.{_≤_, _<_};
 ghost use lib.ListN.{length};
 ghost use Rattle.numerals.specs.Numbers.{digitOf, numberOf, isHex, parsedOf, hexDigitOf, spelledOf, hexOf, significantOf};
-ghost use Rattle.numerals.specs.Words.{isBlank, blankIs, dropWhile, wordOf, afterWord};
+ghost use Rattle.numerals.specs.Words.{isBlank, blankIs, dropWhile, firstWord, afterWord};
 
 pub enum Parsed {
     Number(u32),
@@ -131,7 +131,7 @@ pub fn significant(s: &[u8]) -> &[u8]
 
 // The first word of `s`, empty where `s` has none.
 pub fn word(s: &[u8]) -> &[u8]
-    ensures { λ r. ⌜ now r ≡ wordOf (now (s .entry)) ⌝ }
+    ensures { λ r. ⌜ now r ≡ firstWord (now (s .entry)) ⌝ }
 {
     let start = skip(s, true);
     let rest = skip(start, false);

@@ -20,7 +20,7 @@ use Rattle.calls.specs.declared.Call.{Call}
 use Rattle.calls.specs.declared.Refusal.the-variants.{List as BadList, Long}
 use Rattle.calls.specs.declared.Verdict.{Verdict}
 use Rattle.calls.specs.declared.Verdict.the-variants.{Refused}
-use Rattle.access.proofs.Branch.{told, un-not}
+use Rattle.kinds.proofs.Branch.{told, un-not}
 use Rattle.fields.proofs.Laws.{get-lt}
 use Rattle.refusals.specs.Rows.{surveyOf, bufferVerdict, listVerdict}
 use Rattle.refusals.specs.declared.Survey.{Survey}

@@ -1,4 +1,4 @@
--- The rows of the verdict as they are gone through: what a pass over the list finds, and what the later rows say.
+-- Serves the proof of the verdict: its rows as the code goes through them, in one pass over the list.
 -- Assumes nothing.
 use Prim.Native.Nat.{ℕ}
 use mathlib.Core.Bool.{cond}

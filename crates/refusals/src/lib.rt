@@ -3,10 +3,8 @@
 ghost use mathlib.Core.Path.{_≡_};
 ghost use Prim.Native.Nat.{_≤_};
 ghost use lib.ListN.{length};
-ghost use Rattle.calls.specs.Refusals.{lookupOf, noSuchListenKind, noConfiguration, noSuchCall, tooWide, secondaryWide, maskWide, configWide, addressWide, lengthOf, strangeBits, tooLong, bufferWrong, requestOf, verdictOf, checkOf};
+ghost use Rattle.calls.specs.Refusals.{noSuchListenKind, noConfiguration, noSuchCall, tooWide, secondaryWide, maskWide, configWide, addressWide, strangeBits, tooLong, bufferWrong, requestOf, verdictOf, checkOf};
 ghost use Rattle.refusals.specs.Rows.{surveyOf, bufferVerdict, listVerdict};
-use access::call;
-use calls::Ack;
 use calls::AddressMode;
 use calls::Call;
 use calls::Configuration;
@@ -16,89 +14,23 @@ use calls::MaskBits;
 use calls::Refusal;
 use calls::SecondaryAddress;
 use calls::Verdict;
-
-// The listed call of a number.
-pub fn lookup(n: u32) -> Lookup
-    ensures { λ r. ⌜ r ≡ lookupOf n ⌝ }
-{
-    if n == 1 {
-        return Lookup::Listed(Call::New);
-    }
-    if n == 2 {
-        return Lookup::Listed(Call::TargetNew);
-    }
-    if n == 3 {
-        return Lookup::Listed(Call::ConfigureTargetAddresses);
-    }
-    if n == 4 {
-        return Lookup::Listed(Call::EnableTargetEvent);
-    }
-    if n == 5 {
-        return Lookup::Listed(Call::DisableTargetEvent);
-    }
-    if n == 6 {
-        return Lookup::Listed(Call::Reset);
-    }
-    if n == 7 {
-        return Lookup::Listed(Call::Transaction);
-    }
-    if n == 8 {
-        return Lookup::Listed(Call::WaitForEvent(Ack::AutoAck));
-    }
-    if n == 9 {
-        return Lookup::Listed(Call::Read(Ack::AutoAck));
-    }
-    if n == 10 {
-        return Lookup::Listed(Call::Write(Ack::AutoAck));
-    }
-    if n == 11 {
-        return Lookup::Listed(Call::WaitForTargetRead(Ack::AutoAck));
-    }
-    if n == 12 {
-        return Lookup::Listed(Call::WaitForTargetWrite(Ack::AutoAck));
-    }
-    if n == 13 {
-        return Lookup::Listed(Call::WaitForStop(Ack::AutoAck));
-    }
-    if n == 14 {
-        return Lookup::Listed(Call::AckTransfer);
-    }
-    if n == 15 {
-        return Lookup::Listed(Call::NackTransfer);
-    }
-    if n == 24 {
-        return Lookup::Listed(Call::WaitForEvent(Ack::ManualAck));
-    }
-    if n == 25 {
-        return Lookup::Listed(Call::Read(Ack::ManualAck));
-    }
-    if n == 26 {
-        return Lookup::Listed(Call::Write(Ack::ManualAck));
-    }
-    if n == 27 {
-        return Lookup::Listed(Call::WaitForTargetRead(Ack::ManualAck));
-    }
-    if n == 28 {
-        return Lookup::Listed(Call::WaitForTargetWrite(Ack::ManualAck));
-    }
-    if n == 29 {
-        return Lookup::Listed(Call::WaitForStop(Ack::ManualAck));
-    }
-    Lookup::Unlisted
-}
+use kinds::call;
+use kinds::operation;
 
 // 12, no such call: calls 4 and 5 name one of three listen kinds, and 2 and 3 have a configuration.
 fn is_no_listen_kind(c: Call, d: Description) -> bool
     ensures { λ r. ⌜ r ≡ noSuchListenKind c d ⌝ }
 {
-    (call::is_call(c, 4) | call::is_call(c, 5)) & (d.listen > 2)
+    (call::is_call(c, Call::EnableTargetEvent) | call::is_call(c, Call::DisableTargetEvent))
+        & (d.listen > 2)
 }
 
 fn is_no_configuration(c: Call, d: Description) -> bool
     ensures { λ r. ⌜ r ≡ noConfiguration c d ⌝ }
 {
     let config = d.config;
-    (call::is_call(c, 2) | call::is_call(c, 3)) & !call::has_configuration(config)
+    (call::is_call(c, Call::TargetNew) | call::is_call(c, Call::ConfigureTargetAddresses))
+        & !call::has_configuration(config)
 }
 
 fn is_no_such_call(c: Call, d: Description) -> bool
@@ -155,17 +87,13 @@ fn is_address_wide(c: Call, d: Description) -> bool
     let mode = d.mode;
     let config = d.config;
     (call::is_transaction(c) & is_too_wide(mode, d.address))
-        | ((call::is_call(c, 1) | (call::is_call(c, 2) | call::is_call(c, 3)))
+        | ((call::is_call(c, Call::New)
+            | (call::is_call(c, Call::TargetNew)
+                | call::is_call(c, Call::ConfigureTargetAddresses)))
             & is_config_wide(config))
 }
 
 // 10, list: at most 64 operations, without strange bits, that make up the buffer.
-fn length_of(o: u32) -> u32
-    ensures { λ r. ⌜ r ≡ lengthOf o ⌝ }
-{
-    fields::get(o, 0, 16)
-}
-
 fn is_strange(o: u32) -> bool
     ensures { λ r. ⌜ r ≡ strangeBits o ⌝ }
 {
@@ -176,7 +104,7 @@ fn is_strange(o: u32) -> bool
 fn is_long(o: u32) -> bool
     ensures { λ r. ⌜ r ≡ tooLong o ⌝ }
 {
-    length_of(o) > 255
+    operation::length(o) > 255
 }
 
 // What rows 10 and 9 ask of a list.
@@ -199,7 +127,7 @@ fn survey_of(ops: &[u32]) -> Survey
         let o = ops[i];
         strange |= is_strange(o);
         long |= is_long(o);
-        total += length_of(o);
+        total += operation::length(o);
     }
     Survey {
         strange,
@@ -212,9 +140,7 @@ fn survey_of(ops: &[u32]) -> Survey
 fn is_buffer_wrong(c: Call, n: usize) -> bool
     ensures { λ r. ⌜ r ≡ bufferWrong c n ⌝ }
 {
-    ((call::is_call(c, 9) | (call::is_call(c, 10) | (call::is_call(c, 11) | call::is_call(c, 12))))
-        & (n == 0))
-        | (n > 65535)
+    ((call::moves_bytes(c) & !call::is_manual(c)) & (n == 0)) | (n > 65535)
 }
 
 // The verdict on a listed call, by the rows in their order: here from 11 on.
@@ -263,7 +189,7 @@ fn verdict(c: Call, d: Description, ops: &[u32], n: usize) -> Verdict
 pub fn check(d: Description, ops: &[u32], n: usize) -> Verdict
     ensures { λ r. ⌜ r ≡ checkOf d (now (ops .entry)) n ⌝ }
 {
-    let l = lookup(d.call);
+    let l = call::lookup(d.call);
     match l {
         Lookup::Listed(c) => verdict(c, d, ops, n),
         Lookup::Unlisted => Verdict::Refused(Refusal::NoSuchCall),

@@ -1,3 +1,4 @@
+pub mod Arms
 pub mod Bytes
 pub mod Round
 pub mod Words

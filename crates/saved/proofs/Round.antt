@@ -3,16 +3,17 @@ use Prim.Native.Nat.{ℕ, _<_}
 use native.Mathlib.Omega.{arith}
 use mathlib.Core.Path.{_≡_, refl, sym, ap, _∙_}
 use mathlib.Core.Bool.{Bool, false, not, _&&_}
-use mathlib.Core.List.{List, [], _∷_}
+use mathlib.Core.List.{List, [], _∷_, map}
 use lib.Dec.{T, eqb, eqb→eq, ltb, ltb→lt, lit<}
 use lib.ListN.{length}
 use borrow.Author.Tests.{eq-eqb}
 use Rattle.fields.proofs.Laws.{and-l, and-r}
 use Rattle.calls.proofs.Every.{is-eq, every-step}
 use Rattle.calls.proofs.Logic.{by-test, is-true}
+use Rattle.calls.specs.Bytes.{range}
 use Rattle.calls.specs.Outcomes.{outcomeNumber, outcomeValue}
 use Rattle.calls.specs.Run.{noCall}
-use Rattle.calls.specs.Steps.{stepNumber, is}
+use Rattle.calls.specs.Steps.{stepNumber, steps, sameStep}
 use Rattle.calls.specs.declared.Outcome.{Outcome}
 use Rattle.calls.specs.declared.Outcome.the-variants.{Done, Bus, Arbitration, Nack, Stopped, ExpectedWrite, ExpectedRead, EventRead, EventWrite, EventStop}
 use Rattle.calls.specs.declared.SavedCall.{SavedCall}
@@ -20,7 +21,7 @@ use Rattle.calls.specs.declared.Step.{Step}
 use Rattle.words.specs.Words.{Below, wordsIn, wordAt, bytesOf}
 use Rattle.words.proofs.Round.{words-back, whole-words}
 use Rattle.saved.specs.Range.{OfWords}
-use Rattle.saved.specs.Saved.{stepIn, stepAt, steps, outcomeIn, outcomes, outcomeAt, savedWords, savedBytes, isOutcome, isStep, isSaved, outcomeOf, stepOf, savedWith, savedIn}
+use Rattle.saved.specs.Saved.{stepIn, stepAt, outcomeIn, outcomes, outcomeAt, outcomePlace, valuePlace, stepPlace, savedWords, savedCount, savedLength, savedBytes, isOutcome, isStep, isSaved, outcomeOf, stepOf, savedWith, savedIn}
 use Rattle.saved.specs.declared.outcome.FoundOutcome.{FoundOutcome}
 use Rattle.saved.specs.declared.outcome.FoundOutcome.the-variants.{AnOutcome, NoOutcome}
 use Rattle.saved.specs.declared.step.FoundStep.{FoundStep}
@@ -28,7 +29,7 @@ use Rattle.saved.specs.declared.step.FoundStep.the-variants.{AStep, NoSt
 
 -- ---- steps
 abbrev found : Step → FoundStep → Bool
-found t (AStep u) = is u t
+found t (AStep u) = sameStep u t
 found t NoStep = false
 
 the-step : (t : Step) (f : FoundStep) → T (found t f) → f ≡ AStep t
@@ -110,26 +111,26 @@ read-written s h =
     let w = words-back (savedWords s) (words-below s h) in
     rw (w, outcome-back (s .outcome), step-back (s .step), w)
 
-eight : (b : List ℕ) → length b ≡ 32 →
-    wordsIn b
-    ≡ wordAt b 0 ∷ wordAt b 1 ∷ wordAt b 2 ∷ wordAt b 3 ∷ wordAt b 4 ∷ wordAt b 5 ∷ wordAt b 6 ∷ wordAt b 7 ∷ []
+-- bytes of that length are their words by place
+by-place : (b : List ℕ) → length b ≡ savedLength → wordsIn b ≡ map (wordAt b) (range 0 savedCount)
 unfolding wordsIn
-eight b h = rw h
+by-place b h = rw h
 
-read-words : (b : List ℕ) (k n v : ℕ) (f : FoundStep) (g : FoundOutcome) → T (isStep f && isOutcome g) → Numbered k f → Valued n v g →
-    savedWords (savedWith b f g) ≡ wordAt b 0 ∷ wordAt b 1 ∷ wordAt b 2 ∷ wordAt b 3 ∷ wordAt b 4 ∷ n ∷ v ∷ k ∷ []
-read-words b k n v (AStep t) (AnOutcome o) h p q = rw (p, q .0, q .1)
-read-words b k n v (AStep t) NoOutcome h p q = absurd h
-read-words b k n v NoStep g h p q = absurd h
+read-words : (b : List ℕ) (f : FoundStep) (g : FoundOutcome) → T (isStep f && isOutcome g) →
+    Numbered (wordAt b stepPlace) f → Valued (wordAt b outcomePlace) (wordAt b valuePlace) g →
+    savedWords (savedWith b f g) ≡ map (wordAt b) (range 0 savedCount)
+read-words b (AStep t) (AnOutcome o) h p q = rw (p, q .0, q .1)
+read-words b (AStep t) NoOutcome h p q = absurd h
+read-words b NoStep g h p q = absurd h
 
 -- writing what was read gives the bytes back
 pub written-read : (b : List ℕ) → T (isSaved b) → Below 256 b → savedBytes (savedIn b) ≡ b
 unfolding isSaved savedIn savedBytes
 written-read b h u =
-    let l : length b ≡ 32 = eqb→eq (length b) 32 (and-l (eqb (length b) 32) _ h) in
-    let w = and-r (eqb (length b) 32) (isStep (stepOf b) && isOutcome (outcomeOf b)) h in
-    let f = read-words b _ _ _ (stepOf b) (outcomeOf b) w (number-back (wordAt b 7)) (value-back (wordAt b 5) (wordAt b 6)) in
-    rw (eq-eqb (length b) 32 l) (ap bytesOf (f ∙ sym (eight b l)) ∙ whole-words 8 b l u)
+    let l : length b ≡ savedLength = eqb→eq (length b) savedLength (and-l (eqb (length b) savedLength) _ h) in
+    let w = and-r (eqb (length b) savedLength) (isStep (stepOf b) && isOutcome (outcomeOf b)) h in
+    let f = read-words b (stepOf b) (outcomeOf b) w (number-back _) (value-back _ _) in
+    rw (eq-eqb (length b) savedLength l) (ap bytesOf (f ∙ sym (by-place b l)) ∙ whole-words savedCount b l u)
 
 -- so two saved calls are never written the same
 pub same-bytes : (s t : SavedCall) → OfWords s → OfWords t → savedBytes s ≡ savedBytes t → s ≡ t
@@ -153,6 +154,6 @@ no-parts b NoStep g h = refl
 pub none-read : (b : List ℕ) → T (not (isSaved b)) → savedIn b ≡ noCall
 unfolding isSaved savedIn
 none-read b h =
-    by-test (λ (s : SavedCall). s ≡ noCall) (eqb (length b) 32)
-    (λ l. no-parts b (stepOf b) (outcomeOf b) (rw (is-true (eqb (length b) 32) l) at h))
+    by-test (λ (s : SavedCall). s ≡ noCall) (eqb (length b) savedLength)
+    (λ l. no-parts b (stepOf b) (outcomeOf b) (rw (is-true (eqb (length b) savedLength) l) at h))
     (λ _. refl)

@@ -20,12 +20,12 @@ use Rattle.calls.proofs.Every.{every}
 use Rattle.calls.proofs.Fit.{Fit, accepted-fit}
 use Rattle.calls.proofs.Logic.{by-test, both}
 use Rattle.calls.proofs.Views.{notedIn, thenIn, after-noted}
-use Rattle.calls.specs.Calls.{Request, numberOf, transaction, manual, receives, transmits}
+use Rattle.calls.specs.Calls.{Request, callNumber, transaction, manual, receives, transmits}
 use Rattle.calls.specs.Outcomes.{outcomeValue, readdressed, isEventRead}
 use Rattle.calls.specs.Pieces.{Piece, pieceOf, pieceAt, blocksOf, piecesFor, piecesOf, viewOf}
 use Rattle.calls.specs.Refusals.{requestOf, checkOf, accepts}
 use Rattle.calls.specs.Run.{byteOf, turnOf, advanceFrom}
-use Rattle.calls.specs.Steps.{accessAt, accessOf, afterOf, applyOf, awaited, beginOf, countOf, is, noted, thenAt, waitAt}
+use Rattle.calls.specs.Steps.{accessAt, accessOf, afterOf, applyOf, awaited, beginOf, countOf, sameStep, noted, effectAt, waitAt}
 use Rattle.calls.specs.Words.{addressed, cr2Of, timingrOf, ownWord, secondaryWord, oar1Of, oar2Of, alterOf}
 use Rattle.calls.specs.declared.Access.{Access}
 use Rattle.calls.specs.declared.Access.the-variants.{Read, Take, Write, Nothing}
@@ -47,8 +47,8 @@ use Rattle.calls.specs.declared.SecondaryAddress.{SecondaryAddress}
 use Rattle.calls.specs.declared.SecondaryAddress.the-variants.{NoSecondary, Secondary as AlsoAt}
 use Rattle.calls.specs.declared.Step.{Step}
 use Rattle.calls.specs.declared.Step.the-variants.{Ended, Begin, StartStatus, StartControl, Wait, Byte, StopClear, BusClear, ArbitrationClear, NackClear, FlushTxis, FlushByte, FlushTxe, Flush, Timing, Own, Secondary, Enable, Delay1, Delay2, Disabled, Event, EventFlush, EventClear, Address, TransferClear, ModifyRead, ModifyWrite}
-use Rattle.calls.specs.declared.Then.{Then}
-use Rattle.calls.specs.declared.Then.the-variants.{Goes, Loads, Notes, Next, Enters, Fails, Ends}
+use Rattle.calls.specs.declared.Effect.{Effect}
+use Rattle.calls.specs.declared.Effect.the-variants.{Goes, Loads, Notes, Next, Enters, Fails, Ends}
 use Rattle.calls.specs.declared.Verdict.the-variants.{Accepted}
 use Rattle.calls.specs.declared.View.{View}
 use Rattle.words.proofs.Round.{below-at}
@@ -110,7 +110,7 @@ pub accepted-small : (c : Call) (d : Description) (ops : List ℕ) (n : ℕ) →
 accepted-small c d ops n e = small-pieces c ops n (accepted-fit c d ops n e)
 
 -- ---- the value of the outcome that an answer leads to
-abbrev Value : Then → Type 0
+abbrev Value : Effect → Type 0
 Value (Goes t) = Unit {0}
 Value (Loads t) = Unit {0}
 Value (Notes o t) = outcomeValue o < word
@@ -119,10 +119,10 @@ Value (Enters t) = Unit {0}
 Value (Fails o) = outcomeValue o < word
 Value (Ends o) = outcomeValue o < word
 
-record Valued (n : Then) : Type 0 where
+record Valued (n : Effect) : Type 0 where
   value : Value n
 
-either : (c : Bool) {x y : Then} → (T c → Valued x) → (T (not c) → Valued y) → Valued (cond c x y)
+either : (c : Bool) {x y : Effect} → (T c → Valued x) → (T (not c) → Valued y) → Valued (cond c x y)
 either = by-test Valued
 
 code : (a : ℕ) → getOf a ISR-ADDCODE < word
@@ -139,7 +139,7 @@ module _ (c : Call) (d : Description) (v : View) (s : SavedCall) (a : ℕ) (old 
   waited Stopf = search valued depth 16
   waited Never = search valued depth 16
 
-  led-to : (t : Step) → Valued (thenAt c d v s a t)
+  led-to : (t : Step) → Valued (effectAt c d v s a t)
   led-to Ended = search
   led-to Begin = search tt
   led-to StartStatus = search valued depth 16
@@ -265,18 +265,19 @@ module _ (c : Call) (d : Description) (v : View) (b : List ℕ) (s : SavedCall) 
 -- ---- the saved call after an access
 
 -- its number is that of a listed call
-listed-below : (c : Call) → numberOf c < word
-listed-below c = ltb→lt (numberOf c) word (every (λ c. ltb (numberOf c) word) tt c)
+listed-below : (c : Call) → callNumber c < word
+listed-below c = ltb→lt (callNumber c) word (every (λ c. ltb (callNumber c) word) tt c)
 
 call-below : (q : Request) (s : SavedCall) → T (accepts q s) → s .call < word
 unfolding accepts
 call-below q s h =
-    let e : s .call ≡ numberOf (q .call) = eqb→eq _ _ (and-l (eqb (s .call) (numberOf (q .call))) _ h) in
+    let e : s .call ≡ callNumber (q .call) = eqb→eq _ _ (and-l (eqb (s .call) (callNumber (q .call))) _ h) in
     rw e (listed-below (q .call))
 
--- what a step notes first: BYTE counts its byte, ADDRESS keeps OA1
-record Noted (s : SavedCall) : Type 0 where
+-- the numbers that row 13 does not bound: what a step notes first, BYTE its byte and ADDRESS OA1, keeps them words
+record Others (s : SavedCall) : Type 0 where
   word-below : s .word < word
+  accesses-below : s .accesses < word
   value-below : outcomeValue (s .outcome) < word
 
 found-below : (o : Outcome) (a : ℕ) → outcomeValue (readdressed o (getOf a OAR1-OA1)) < word
@@ -284,16 +285,11 @@ found-below o a =
     let h : getOf a OAR1-OA1 < word = omega (arith, get-lt a OAR1-OA1) in
     by-test (λ (x : Outcome). outcomeValue x < word) (isEventRead o) (λ _. h) (λ _. h)
 
-notes : (v : View) (s : SavedCall) (a : ℕ) (t : Step) → OfWords s → Noted (noted v s a t)
-notes v s a t h = by-test Noted (is t Byte) (λ _. search) (λ _. by-test Noted (is t Address) (λ _. search found-below) (λ _. search))
+notes : (v : View) (s : SavedCall) (a : ℕ) (t : Step) → OfWords s → Others (noted v s a t)
+notes v s a t h = by-test Others (sameStep t Byte) (λ _. search) (λ _. by-test Others (sameStep t Address) (λ _. search found-below) (λ _. search))
 
--- and what it leads to
-record Applied (s : SavedCall) : Type 0 where
-  word-below : s .word < word
-  accesses-below : s .accesses < word
-  value-below : outcomeValue (s .outcome) < word
-
-applied : (s : SavedCall) (a : ℕ) (n : Then) → Noted s → a < word → Valued n → Applied (applyOf s a n)
+-- and so does what it leads to
+applied : (s : SavedCall) (a : ℕ) (n : Effect) → Others s → a < word → Valued n → Others (applyOf s a n)
 applied s a (Goes t) m g f = search arith
 applied s a (Loads t) m g f = search arith
 applied s a (Notes o t) m g f = search arith
@@ -309,7 +305,7 @@ count-below c s h g =
     omega arith
 
 module _ (q : Request) (small : Small (piecesOf q)) where
-  words-after : (s : SavedCall) (a : ℕ) → T (accepts q s) → T (not (is (s .step) Ended)) → OfWords s → a < word → OfWords (afterOf q s a)
+  words-after : (s : SavedCall) (a : ℕ) → T (accepts q s) → T (not (sameStep (s .step) Ended)) → OfWords s → a < word → OfWords (afterOf q s a)
   words-after s a h n w g =
       let k = known q s h n in
       let s′ : SavedCall = notedIn q s a in
@@ -318,21 +314,13 @@ module _ (q : Request) (small : Small (piecesOf q)) where
       let k′ = known-after q s a n k in
       let f = led-to (q .call) (q .words) (viewOf q s′) s′ a (m′ .value-below)
       (count-below (q .call) s′ (omega (arith, m .piece, small .few)) (omega (arith, m .byte, small .size (s′ .piece)))) (s .step) in
-      let H : Applied (afterOf q s a) = rw (after-noted q s a) (applied s′ a (thenIn q s a) m′ g f) in
-      record {
-        call = call-below q (afterOf q s a) (accepted-after q s a h);
-        piece = omega (arith, k′ .piece, small .few);
-        byte = omega (arith, k′ .byte, small .size (afterOf q s a .piece));
-        word = H .word-below;
-        accesses = H .accesses-below;
-        value = H .value-below;
-      }
+      let H : Others (afterOf q s a) = rw (after-noted q s a) (applied s′ a (thenIn q s a) m′ g f) in
+      search (arith, call-below q (afterOf q s a) (accepted-after q s a h), small .few, small .size (afterOf q s a .piece))
 
 -- begin gives words
 pub begin-words : (q : Request) → OfWords (beginOf q)
 unfolding beginOf
-begin-words q =
-    record { call = listed-below (q .call); piece = no-word; byte = no-word; word = no-word; accesses = no-word; value = no-word }
+begin-words q = search (listed-below, no-word)
 
 -- ---- a run over answers that are words
 offset-below : (r : Register) → offsetOf r < 256
@@ -355,7 +343,7 @@ module _ (q : Request) (small : Small (piecesOf q)) where
   goes-on : (s : SavedCall) (b : List ℕ) (a : ℕ) (b′ : List ℕ) → InRange q s b → T (made (accessOf q b s)) → a < word → Below 256 b′ →
       InRange q (afterOf q s a) b′
   goes-on s b a b′ i h g k =
-      let n : T (not (is (s .step) Ended)) = both (is (s .step) Ended) (λ e. absurd (rw (no-access q b s e) at h)) (λ n. n) in
+      let n : T (not (sameStep (s .step) Ended)) = both (sameStep (s .step) Ended) (λ e. absurd (rw (no-access q b s e) at h)) (λ n. n) in
       record { accepted = accepted-after q s a (i .accepted); of-words = words-after q small s a (i .accepted) n (i .of-words) g; bytes = k }
 
   written : (s : SavedCall) (b : List ℕ) → InRange q s b → Written (accessOf q b s)

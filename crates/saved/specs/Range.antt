@@ -1,4 +1,4 @@
--- Numbers that 32 bits and bytes hold (document 01: a word is 32 bits unsigned): of a saved call, of a call that runs, and of
+-- Serves the proofs across bytes: numbers that 32 bits and bytes hold (document 01: a word is 32 bits unsigned), of a saved call, of a call that runs, and of
 -- what one advance comes to. Assumes nothing.
 use Prim.Native.Nat.{ℕ, _<_}
 use mathlib.Core.List.{List}

@@ -1,19 +1,16 @@
--- The saved call as bytes: eight little-endian words. Assumes nothing.
-use Prim.Native.Nat.{ℕ}
+-- The saved call as bytes: its words, little-endian, one after the other. Assumes nothing.
+use Prim.Native.Nat.{ℕ, _+_, _*_}
 use mathlib.Core.Bool.{Bool, true, false, cond, _&&_}
-use mathlib.Core.List.{List, [], _∷_, _++_, map}
+use mathlib.Core.List.{List, [], _∷_}
 use lib.Dec.{eqb}
 use lib.ListN.{length}
 use Rattle.calls.specs.Outcomes.{outcomeNumber, outcomeValue}
 use Rattle.calls.specs.Run.{noCall}
-use Rattle.calls.specs.Steps.{stepNumber}
-use Rattle.calls.specs.declared.Modify.{Modify}
-use Rattle.calls.specs.declared.Modify.the-variants.{PeOff, PeOn, Listen, NackSet, ReloadOff, SbcOff, ReloadClear, SbcOn, ReloadOn, NbytesSet}
+use Rattle.calls.specs.Steps.{stepNumber, steps}
 use Rattle.calls.specs.declared.Outcome.{Outcome}
 use Rattle.calls.specs.declared.Outcome.the-variants.{Done, Bus, Arbitration, Nack, Stopped, ExpectedWrite, ExpectedRead, EventRead, EventWrite, EventStop}
 use Rattle.calls.specs.declared.SavedCall.{SavedCall}
 use Rattle.calls.specs.declared.Step.{Step}
-use Rattle.calls.specs.declared.Step.the-variants.{Ended, Begin, StartStatus, StartControl, Wait, Byte, StopClear, BusClear, ArbitrationClear, NackClear, FlushTxis, FlushByte, FlushTxe, Flush, Timing, Own, Secondary, Enable, Delay1, Delay2, Disabled, Event, EventFlush, EventClear, Address, TransferClear, ModifyRead, ModifyWrite}
 use Rattle.words.specs.Words.{wordAt, bytesOf}
 use Rattle.saved.specs.declared.outcome.FoundOutcome.{FoundOutcome}
 use Rattle.saved.specs.declared.outcome.FoundOutcome.the-variants.{AnOutcome, NoOutcome}
@@ -21,16 +18,6 @@ use Rattle.saved.specs.declared.step.FoundStep.{FoundStep}
 use Rattle.saved.specs.declared.step.FoundStep.the-variants.{AStep, NoStep}
 
 -- ---- The step of a number
-abbrev pub modifies : List Modify
-modifies = PeOff ∷ PeOn ∷ Listen ∷ NackSet ∷ ReloadOff ∷ SbcOff ∷ ReloadClear ∷ SbcOn ∷ ReloadOn ∷ NbytesSet ∷ []
-
-abbrev pub steps : List Step
-steps =
-    Ended ∷ Begin ∷ StartStatus ∷ StartControl ∷ Wait ∷ Byte ∷ StopClear ∷ BusClear ∷ ArbitrationClear ∷ NackClear
-    ∷ FlushTxis ∷ FlushByte ∷ FlushTxe ∷ Flush ∷ Timing ∷ Own ∷ Secondary ∷ Enable ∷ Delay1 ∷ Delay2 ∷ Disabled
-    ∷ Event ∷ EventFlush ∷ EventClear ∷ Address ∷ TransferClear
-    ∷ map ModifyRead modifies ++ map ModifyWrite modifies
-
 abbrev pub stepIn : List Step → ℕ → FoundStep
 stepIn [] n = NoStep
 stepIn (t ∷ ts) n = cond (eqb n (stepNumber t)) (AStep t) (stepIn ts n)
@@ -50,18 +37,56 @@ outcomeIn (o ∷ os) n v = cond (eqb n (outcomeNumber o)) (cond (eqb v (outcomeV
 unfoldable pub outcomeAt : ℕ → ℕ → FoundOutcome
 outcomeAt n v = outcomeIn (outcomes v) n v
 
--- ---- The bytes of a saved call
+-- ---- The words of a saved call, and which word is which: each place follows the one before it
+abbrev pub callPlace : ℕ
+callPlace = 0
+
+abbrev pub piecePlace : ℕ
+piecePlace = callPlace + 1
+
+abbrev pub bytePlace : ℕ
+bytePlace = piecePlace + 1
+
+abbrev pub wordPlace : ℕ
+wordPlace = bytePlace + 1
+
+abbrev pub accessesPlace : ℕ
+accessesPlace = wordPlace + 1
+
+abbrev pub outcomePlace : ℕ
+outcomePlace = accessesPlace + 1
+
+abbrev pub valuePlace : ℕ
+valuePlace = outcomePlace + 1
+
+abbrev pub stepPlace : ℕ
+stepPlace = valuePlace + 1
+
 abbrev pub savedWords : SavedCall → List ℕ
 savedWords s =
-    s .call ∷ s .piece ∷ s .byte ∷ s .word ∷ s .accesses
-    ∷ outcomeNumber (s .outcome) ∷ outcomeValue (s .outcome) ∷ stepNumber (s .step) ∷ []
+    s .call
+    ∷ s .piece
+    ∷ s .byte
+    ∷ s .word
+    ∷ s .accesses
+    ∷ outcomeNumber (s .outcome)
+    ∷ outcomeValue (s .outcome)
+    ∷ stepNumber (s .step)
+    ∷ []
+
+-- how many they are, and their length in bytes
+abbrev pub savedCount : ℕ
+savedCount = length (savedWords noCall)
+
+abbrev pub savedLength : ℕ
+savedLength = 4 * savedCount
 
 unfoldable pub savedBytes : SavedCall → List ℕ
 savedBytes s = bytesOf (savedWords s)
 
 -- what a slice holds once s is written to it: one of another length is left as it is
 unfoldable pub writtenTo : List ℕ → SavedCall → List ℕ
-writtenTo bytes s = cond (eqb (length bytes) 32) (savedBytes s) bytes
+writtenTo bytes s = cond (eqb (length bytes) savedLength) (savedBytes s) bytes
 
 -- ---- The saved call of bytes. Bytes of another length, without such an outcome or without such a step are none; they are
 -- read as what a refused begin hands out, which no advance takes.
@@ -74,22 +99,22 @@ isOutcome (AnOutcome o) = true
 isOutcome NoOutcome = false
 
 abbrev pub stepOf : List ℕ → FoundStep
-stepOf bytes = stepAt (wordAt bytes 7)
+stepOf bytes = stepAt (wordAt bytes stepPlace)
 
 abbrev pub outcomeOf : List ℕ → FoundOutcome
-outcomeOf bytes = outcomeAt (wordAt bytes 5) (wordAt bytes 6)
+outcomeOf bytes = outcomeAt (wordAt bytes outcomePlace) (wordAt bytes valuePlace)
 
 unfoldable pub isSaved : List ℕ → Bool
-isSaved bytes = eqb (length bytes) 32 && (isStep (stepOf bytes) && isOutcome (outcomeOf bytes))
+isSaved bytes = eqb (length bytes) savedLength && (isStep (stepOf bytes) && isOutcome (outcomeOf bytes))
 
 abbrev pub savedAs : List ℕ → Step → Outcome → SavedCall
 savedAs bytes t o =
     record {
-      call = wordAt bytes 0;
-      piece = wordAt bytes 1;
-      byte = wordAt bytes 2;
-      word = wordAt bytes 3;
-      accesses = wordAt bytes 4;
+      call = wordAt bytes callPlace;
+      piece = wordAt bytes piecePlace;
+      byte = wordAt bytes bytePlace;
+      word = wordAt bytes wordPlace;
+      accesses = wordAt bytes accessesPlace;
       outcome = o;
       step = t;
     }
@@ -100,4 +125,4 @@ savedWith bytes (AStep t) NoOutcome = noCall
 savedWith bytes NoStep o = noCall
 
 unfoldable pub savedIn : List ℕ → SavedCall
-savedIn bytes = cond (eqb (length bytes) 32) (savedWith bytes (stepOf bytes) (outcomeOf bytes)) noCall
+savedIn bytes = cond (eqb (length bytes) savedLength) (savedWith bytes (stepOf bytes) (outcomeOf bytes)) noCall

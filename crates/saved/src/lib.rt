@@ -1,55 +1,56 @@
 // The saved call as bytes, and back. Each function equals its definition in specs/.
 ghost use mathlib.Core.Path.{_≡_};
-ghost use Rattle.calls.specs.Run.{noCall};
 ghost use Rattle.saved.specs.Saved.{stepOf, outcomeOf, savedAs, savedWith, savedIn, writtenTo};
-use access::call;
 use calls::Outcome;
 use calls::SavedCall;
 use calls::Step;
+use kinds::saved_call;
 use outcome::FoundOutcome;
 use step::FoundStep;
 
 mod outcome;
 mod step;
 
-pub use outcome::outcome_number;
+// The words of a saved call, each after the one before it, and the length of them all in bytes.
+const CALL: usize = 0;
 
-// What a refused begin hands out; no advance takes it.
-fn no_call() -> SavedCall
-    ensures { λ r. ⌜ r ≡ noCall ⌝ }
-{
-    SavedCall {
-        call: 0,
-        piece: 0,
-        byte: 0,
-        word: 0,
-        accesses: 0,
-        outcome: Outcome::Done(0),
-        step: Step::Ended,
-    }
-}
+const PIECE: usize = CALL + 1;
+
+const BYTE: usize = PIECE + 1;
+
+const WORD: usize = BYTE + 1;
+
+const ACCESSES: usize = WORD + 1;
+
+const OUTCOME: usize = ACCESSES + 1;
+
+const VALUE: usize = OUTCOME + 1;
+
+const STEP: usize = VALUE + 1;
+
+pub const LENGTH: usize = 4 * (STEP + 1);
 
 fn step_of(bytes: &[u8]) -> FoundStep
     ensures { λ r. ⌜ r ≡ stepOf (now (bytes .entry)) ⌝ }
 {
-    step::step_at(words::get(bytes, 7))
+    step::step_at(words::get(bytes, STEP))
 }
 
 fn outcome_of(bytes: &[u8]) -> FoundOutcome
     ensures { λ r. ⌜ r ≡ outcomeOf (now (bytes .entry)) ⌝ }
 {
-    outcome::outcome_at(words::get(bytes, 5), words::get(bytes, 6))
+    outcome::outcome_at(words::get(bytes, OUTCOME), words::get(bytes, VALUE))
 }
 
 fn read_as(bytes: &[u8], step: Step, outcome: Outcome) -> SavedCall
     ensures { λ r. ⌜ r ≡ savedAs (now (bytes .entry)) step outcome ⌝ }
 {
     SavedCall {
-        call: words::get(bytes, 0),
-        piece: words::get(bytes, 1),
-        byte: words::get(bytes, 2),
-        word: words::get(bytes, 3),
-        accesses: words::get(bytes, 4),
+        call: words::get(bytes, CALL),
+        piece: words::get(bytes, PIECE),
+        byte: words::get(bytes, BYTE),
+        word: words::get(bytes, WORD),
+        accesses: words::get(bytes, ACCESSES),
         outcome,
         step,
     }
@@ -61,9 +62,9 @@ fn read_with(bytes: &[u8], step: FoundStep, outcome: FoundOutcome) -> SavedCall
     match step {
         FoundStep::AStep(t) => match outcome {
             FoundOutcome::AnOutcome(o) => read_as(bytes, t, o),
-            FoundOutcome::NoOutcome => no_call(),
+            FoundOutcome::NoOutcome => saved_call::no_call(),
         },
-        FoundStep::NoStep => no_call(),
+        FoundStep::NoStep => saved_call::no_call(),
     }
 }
 
@@ -71,17 +72,17 @@ fn read_with(bytes: &[u8], step: FoundStep, outcome: FoundOutcome) -> SavedCall
 pub fn read(bytes: &[u8]) -> SavedCall
     ensures { λ r. ⌜ r ≡ savedIn (now (bytes .entry)) ⌝ }
 {
-    if bytes.len() == 32 {
+    if bytes.len() == LENGTH {
         return read_with(bytes, step_of(bytes), outcome_of(bytes));
     }
-    no_call()
+    saved_call::no_call()
 }
 
-// Writes a saved call to 32 bytes, and nothing to another number of bytes.
+// Writes a saved call to bytes of that length, and nothing to others.
 pub fn write(s: SavedCall, bytes: &mut [u8])
     ensures { λ _. ⌜ now (bytes .exit) ≡ writtenTo (now (bytes .entry)) s ⌝ }
 {
-    if bytes.len() == 32 {
+    if bytes.len() == LENGTH {
         let outcome = s.outcome;
         let step = s.step;
         let all = [
@@ -90,8 +91,8 @@ pub fn write(s: SavedCall, bytes: &mut [u8])
             s.byte,
             s.word,
             s.accesses,
-            outcome::outcome_number(outcome),
-            call::value(outcome),
+            kinds::outcome::number(outcome),
+            kinds::outcome::value(outcome),
             step::step_number(step),
         ];
         words::encode(&all, bytes);

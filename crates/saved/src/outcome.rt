@@ -1,31 +1,13 @@
-// An outcome's number, and the outcome of a number and a value.
+// The outcome of a number and a value.
 ghost use mathlib.Core.Path.{_≡_};
 ghost use mathlib.Core.Bool.{cond};
 ghost use lib.Dec.{eqb};
-ghost use Rattle.calls.specs.Outcomes.{outcomeNumber};
 ghost use Rattle.saved.specs.Saved.{outcomeAt};
 use calls::Outcome;
 
 pub enum FoundOutcome {
     AnOutcome(Outcome),
     NoOutcome,
-}
-
-pub fn outcome_number(o: Outcome) -> u32
-    ensures { λ r. ⌜ r ≡ outcomeNumber o ⌝ }
-{
-    match o {
-        Outcome::Done(_) => 0,
-        Outcome::Bus => 1,
-        Outcome::Arbitration => 2,
-        Outcome::Nack => 3,
-        Outcome::Stopped => 4,
-        Outcome::ExpectedWrite => 5,
-        Outcome::ExpectedRead => 6,
-        Outcome::EventRead(_) => 7,
-        Outcome::EventWrite(_) => 8,
-        Outcome::EventStop => 9,
-    }
 }
 
 // An outcome that comes with nothing.

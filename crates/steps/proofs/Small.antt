@@ -6,7 +6,7 @@ use lib.Dec.{T, leb, leb→le}
 use borrow.Author.Tests.{le-leb}
 use Rattle.fields.proofs.Laws.{and-l, and-r}
 use native.Mathlib.Omega.{arith}
-use Rattle.calls.specs.Steps.{is, counted, found, noted}
+use Rattle.calls.specs.Steps.{sameStep, counted, found, noted}
 use Rattle.calls.specs.declared.SavedCall.{SavedCall}
 use Rattle.calls.specs.declared.Step.{Step}
 use Rattle.calls.specs.declared.Step.the-variants.{Byte, Address}
@@ -19,8 +19,8 @@ either false x y h k = k
 
 pub small-noted : (v : View) (s : SavedCall) (a : ℕ) (t : Step) → v .size ≤ 65535 → Small s → Small (noted v s a t)
 small-noted v s a t fits h =
-    either (is t Byte) (counted v s) _ (record { piece = h .piece; byte = omega arith })
-    (either (is t Address) (found s a) s (record { piece = h .piece; byte = h .byte }) h)
+    either (sameStep t Byte) (counted v s) _ (record { piece = h .piece; byte = omega arith })
+    (either (sameStep t Address) (found s a) s (record { piece = h .piece; byte = h .byte }) h)
 
 pub small-says : (v : View) (s : SavedCall) → T (small v s) → Small s × (v .size ≤ 65535)
 small-says v s h =

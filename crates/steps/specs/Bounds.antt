@@ -1,4 +1,4 @@
--- The bounds within which a step's arithmetic stays. Assumes nothing.
+-- Serves the proofs of steps: the bounds within which their arithmetic stays. Assumes nothing.
 use Prim.Native.Nat.{_≤_}
 use mathlib.Core.Bool.{Bool, _&&_}
 use lib.Dec.{leb}

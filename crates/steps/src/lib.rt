@@ -6,46 +6,49 @@ ghost use lib.Dec.{ltb};
 ghost use Prim.Native.Nat.{_+_, _-_, _≤_, min};
 ghost use Rattle.fields.specs.Field.{flagOf};
 ghost use Rattle.registers.specs.Places.{ISR-STOPF, ISR-ADDR};
-ghost use Rattle.calls.specs.Calls.{call, transaction, transmits};
+ghost use Rattle.calls.specs.Calls.{isCall, transaction, transmits};
 ghost use Rattle.calls.specs.Outcomes.{isDone, readdressed};
-ghost use Rattle.calls.specs.Pieces.{there};
-ghost use Rattle.calls.specs.Steps.{errorOr, nackOr, failing, failOf, countOf, transferOver, notAcknowledged, entryStep, transferOf, eventOf, stopEvent, addressFound, tenBitHeader, findAddress, clearStep, addressEvent, eventIn, awaited, stopOr, goesIf, nextIf, waitAt, byteMoved, ownThen, writtenAt, thenAt, more, applyOf, is, counted, found, noted, afterIn, startAt, beginAt};
+ghost use Rattle.calls.specs.Pieces.{byteThere};
+ghost use Rattle.calls.specs.Steps.{errorOr, nackOr, failing, failOf, countOf, transferOver, notAcknowledged, entryStep, transferOf, eventOf, stopEvent, addressFound, tenBitHeader, findAddress, clearStep, addressEvent, eventIn, awaited, stopOr, goesIf, nextIf, waitAt, byteMoved, ownThen, writtenAt, effectAt, oneMore, applyOf, sameStep, counted, found, noted, afterIn, startAt, beginAt};
 ghost use Rattle.calls.specs.declared.Step.the-variants.{Ended, StartControl, Wait, Byte, Address};
-ghost use Rattle.calls.specs.declared.Then.the-variants.{Goes};
+ghost use Rattle.calls.specs.declared.Effect.the-variants.{Goes};
+ghost use Rattle.calls.specs.declared.Call.the-variants.{New, TargetNew, EnableTargetEvent, DisableTargetEvent, Reset};
 ghost use Rattle.steps.specs.Bounds.{Small, small};
-use access::call;
 use calls::Call;
 use calls::Description;
+use calls::Effect;
 use calls::Flag;
 use calls::Modify;
 use calls::Outcome;
 use calls::SavedCall;
 use calls::Step;
-use calls::Then;
 use calls::View;
+use kinds::call;
+use kinds::outcome;
+use kinds::saved_call;
 use registers::Cr1;
 use registers::Cr2;
 use registers::Isr;
 use registers::Oar1;
 
 // Errors come before all else that a status word says.
-fn error_or(a: u32, t: Then) -> Then
+fn error_or(a: u32, t: Effect) -> Effect
     ensures { λ r. ⌜ r ≡ errorOr a t ⌝ }
 {
     if Isr(a).berr() {
-        return Then::Goes(Step::BusClear);
+        return Effect::Goes(Step::BusClear);
     }
     if Isr(a).arlo() {
-        return Then::Goes(Step::ArbitrationClear);
+        return Effect::Goes(Step::ArbitrationClear);
     }
     t
 }
 
-fn nack_or(a: u32, t: Then) -> Then
+fn nack_or(a: u32, t: Effect) -> Effect
     ensures { λ r. ⌜ r ≡ nackOr a t ⌝ }
 {
     if Isr(a).nackf() {
-        return Then::Goes(Step::NackClear);
+        return Effect::Goes(Step::NackClear);
     }
     t
 }
@@ -55,24 +58,24 @@ fn is_failing(c: Call, s: SavedCall) -> bool
     ensures { λ r. ⌜ r ≡ failing c s ⌝ }
 {
     let o = s.outcome;
-    call::is_transaction(c) && !call::is_done(o)
+    call::is_transaction(c) && !outcome::is_done(o)
 }
 
 fn is_sound(c: Call, s: SavedCall) -> bool
     ensures { λ r. ⌜ r ≡ (transaction c && isDone (s .outcome)) ⌝ }
 {
     let o = s.outcome;
-    call::is_transaction(c) && call::is_done(o)
+    call::is_transaction(c) && outcome::is_done(o)
 }
 
 // A transaction keeps its first error until its stop; any other error ends a call at once.
-fn fail(c: Call, s: SavedCall, o: Outcome) -> Then
+fn fail(c: Call, s: SavedCall, o: Outcome) -> Effect
     ensures { λ r. ⌜ r ≡ failOf c s o ⌝ }
 {
     if is_sound(c, s) {
-        return Then::Fails(o);
+        return Effect::Fails(o);
     }
-    Then::Ends(o)
+    Effect::Ends(o)
 }
 
 fn less_one(n: u32) -> u32
@@ -96,17 +99,17 @@ fn count(c: Call, s: SavedCall) -> u32
 }
 
 // An automatic read sets NACK at its end.
-fn transfer_over(c: Call, s: SavedCall) -> Then
+fn transfer_over(c: Call, s: SavedCall) -> Effect
     requires { ⌜ Small s ⌝ }
     ensures { λ r. ⌜ r ≡ transferOver c s ⌝ }
 {
     if call::is_auto_receiver(c) {
-        return Then::Goes(Step::ModifyRead(Modify::NackSet));
+        return Effect::Goes(Step::ModifyRead(Modify::NackSet));
     }
-    Then::Ends(Outcome::Done(count(c, s)))
+    Effect::Ends(Outcome::Done(count(c, s)))
 }
 
-fn not_acknowledged(c: Call, s: SavedCall) -> Then
+fn not_acknowledged(c: Call, s: SavedCall) -> Effect
     requires { ⌜ Small s ⌝ }
     ensures { λ r. ⌜ r ≡ notAcknowledged c s ⌝ }
 {
@@ -130,59 +133,59 @@ fn entry_step(c: Call) -> Step
 }
 
 // From an event into the transfer, if there is any piece.
-fn transfer(c: Call, some: bool) -> Then
-    ensures { λ r. ⌜ r ≡ transferOf c some ⌝ }
+fn transfer(c: Call, nonempty: bool) -> Effect
+    ensures { λ r. ⌜ r ≡ transferOf c nonempty ⌝ }
 {
-    if some {
-        return Then::Enters(entry_step(c));
+    if nonempty {
+        return Effect::Enters(entry_step(c));
     }
-    Then::Ends(Outcome::Done(0))
+    Effect::Ends(Outcome::Done(0))
 }
 
 // What a complete event means to each call.
-fn event_over(c: Call, some: bool, s: SavedCall) -> Then
-    ensures { λ r. ⌜ r ≡ eventOf c some s ⌝ }
+fn event_over(c: Call, nonempty: bool, s: SavedCall) -> Effect
+    ensures { λ r. ⌜ r ≡ eventOf c nonempty s ⌝ }
 {
     let o = s.outcome;
     if call::is_wait_for_event(c) {
-        return Then::Ends(o);
+        return Effect::Ends(o);
     }
-    if call::is_event_read(o) {
+    if outcome::is_event_read(o) {
         if call::is_transmitter(c) {
-            return transfer(c, some);
+            return transfer(c, nonempty);
         }
-        return Then::Ends(Outcome::ExpectedWrite);
+        return Effect::Ends(Outcome::ExpectedWrite);
     }
     if call::is_receiver(c) {
-        return transfer(c, some);
+        return transfer(c, nonempty);
     }
-    Then::Ends(Outcome::ExpectedRead)
+    Effect::Ends(Outcome::ExpectedRead)
 }
 
-fn stop_event(c: Call) -> Then
+fn stop_event(c: Call) -> Effect
     ensures { λ r. ⌜ r ≡ stopEvent c ⌝ }
 {
     if call::is_wait_for_event(c) {
-        return Then::Ends(Outcome::EventStop);
+        return Effect::Ends(Outcome::EventStop);
     }
     if call::is_wait_for_stop(c) {
-        return Then::Ends(Outcome::Done(0));
+        return Effect::Ends(Outcome::Done(0));
     }
-    Then::Ends(Outcome::Stopped)
+    Effect::Ends(Outcome::Stopped)
 }
 
 // ManualAck clears ADDR at once only if the controller reads; else byte control comes first.
-fn address_found(c: Call, some: bool, s: SavedCall) -> Then
-    ensures { λ r. ⌜ r ≡ addressFound c some s ⌝ }
+fn address_found(c: Call, nonempty: bool, s: SavedCall) -> Effect
+    ensures { λ r. ⌜ r ≡ addressFound c nonempty s ⌝ }
 {
     let o = s.outcome;
     if call::is_manual(c) {
-        if call::is_event_read(o) {
-            return Then::Goes(Step::EventClear);
+        if outcome::is_event_read(o) {
+            return Effect::Goes(Step::EventClear);
         }
-        return Then::Goes(Step::ModifyRead(Modify::SbcOn));
+        return Effect::Goes(Step::ModifyRead(Modify::SbcOn));
     }
-    event_over(c, some, s)
+    event_over(c, nonempty, s)
 }
 
 fn is_ten_bit_header(code: u32) -> bool
@@ -192,14 +195,14 @@ fn is_ten_bit_header(code: u32) -> bool
 }
 
 // An address of ten bits stands in OAR1.
-fn find_address(c: Call, some: bool, s: SavedCall) -> Then
-    ensures { λ r. ⌜ r ≡ findAddress c some s ⌝ }
+fn find_address(c: Call, nonempty: bool, s: SavedCall) -> Effect
+    ensures { λ r. ⌜ r ≡ findAddress c nonempty s ⌝ }
 {
     let o = s.outcome;
-    if is_ten_bit_header(call::value(o)) {
-        return Then::Goes(Step::Address);
+    if is_ten_bit_header(outcome::value(o)) {
+        return Effect::Goes(Step::Address);
     }
-    address_found(c, some, s)
+    address_found(c, nonempty, s)
 }
 
 fn clear_step(c: Call) -> Step
@@ -212,17 +215,17 @@ fn clear_step(c: Call) -> Step
 }
 
 // A byte left in TXDR goes first.
-fn address_event(c: Call, a: u32, o: Outcome) -> Then
+fn address_event(c: Call, a: u32, o: Outcome) -> Effect
     ensures { λ r. ⌜ r ≡ addressEvent c a o ⌝ }
 {
     if Isr(a).txe() {
-        return Then::Notes(o, clear_step(c));
+        return Effect::Notes(o, clear_step(c));
     }
-    Then::Notes(o, Step::EventFlush)
+    Effect::Notes(o, Step::EventFlush)
 }
 
 // An address match, a stop, or nothing yet.
-fn event_in(c: Call, a: u32) -> Then
+fn event_in(c: Call, a: u32) -> Effect
     ensures { λ r. ⌜ r ≡ eventIn c a ⌝ }
 {
     if Isr(a).addr() {
@@ -235,9 +238,9 @@ fn event_in(c: Call, a: u32) -> Then
         );
     }
     if Isr(a).stopf() {
-        return error_or(a, Then::Goes(Step::StopClear));
+        return error_or(a, Effect::Goes(Step::StopClear));
     }
-    error_or(a, Then::Goes(Step::Event))
+    error_or(a, Effect::Goes(Step::Event))
 }
 
 // A byte is there: one of the piece's or, past the last that a target puts out, a filling zero.
@@ -248,7 +251,7 @@ pub fn byte_there(c: Call, byte: u32, size: u32, last: bool) -> bool
 }
 
 pub fn is_there(c: Call, v: View, s: SavedCall) -> bool
-    ensures { λ r. ⌜ r ≡ there c v s ⌝ }
+    ensures { λ r. ⌜ r ≡ byteThere c v s ⌝ }
 {
     byte_there(c, s.byte, v.size, v.last)
 }
@@ -284,7 +287,7 @@ fn is_stop(a: u32) -> bool
     Isr(a).stopf() || Isr(a).addr()
 }
 
-fn stop_or(c: Call, s: SavedCall, a: u32) -> Then
+fn stop_or(c: Call, s: SavedCall, a: u32) -> Effect
     requires { ⌜ Small s ⌝ }
     ensures { λ r. ⌜ r ≡ stopOr c s a ⌝ }
 {
@@ -294,35 +297,35 @@ fn stop_or(c: Call, s: SavedCall, a: u32) -> Then
         }
         return transfer_over(c, s);
     }
-    Then::Goes(Step::Wait)
+    Effect::Goes(Step::Wait)
 }
 
-fn goes_if(flag: bool, t: Step) -> Then
+fn goes_if(flag: bool, t: Step) -> Effect
     ensures { λ r. ⌜ r ≡ goesIf flag t ⌝ }
 {
     if flag {
-        return Then::Goes(t);
+        return Effect::Goes(t);
     }
-    Then::Goes(Step::Wait)
+    Effect::Goes(Step::Wait)
 }
 
-fn next_if(flag: bool) -> Then
+fn next_if(flag: bool) -> Effect
     ensures { λ r. ⌜ r ≡ nextIf flag ⌝ }
 {
     if flag {
-        return Then::Next(Step::Begin);
+        return Effect::Next(Step::Begin);
     }
-    Then::Goes(Step::Wait)
+    Effect::Goes(Step::Wait)
 }
 
-fn wait_at(c: Call, v: View, s: SavedCall, a: u32, f: Flag) -> Then
+fn wait_at(c: Call, v: View, s: SavedCall, a: u32, f: Flag) -> Effect
     requires { ⌜ Small s ⌝ }
     ensures { λ r. ⌜ r ≡ waitAt c v s a f ⌝ }
 {
     match f {
         Flag::Rxne => {
             if Isr(a).rxne() {
-                return Then::Goes(Step::Byte);
+                return Effect::Goes(Step::Byte);
             }
             stop_or(c, s, a)
         }
@@ -334,84 +337,84 @@ fn wait_at(c: Call, v: View, s: SavedCall, a: u32, f: Flag) -> Then
             if v.reads {
                 return stop_or(c, s, a);
             }
-            nack_or(a, Then::Goes(Step::Wait))
+            nack_or(a, Effect::Goes(Step::Wait))
         }
     }
 }
 
 // A transaction also waits at the end of a piece.
 fn is_waiting_on(c: Call, v: View, s: SavedCall) -> bool
-    ensures { λ r. ⌜ r ≡ (transaction c || there c v s) ⌝ }
+    ensures { λ r. ⌜ r ≡ (transaction c || byteThere c v s) ⌝ }
 {
     call::is_transaction(c) || is_there(c, v, s)
 }
 
-fn byte_moved(c: Call, v: View, s: SavedCall) -> Then
+fn byte_moved(c: Call, v: View, s: SavedCall) -> Effect
     requires { ⌜ Small s ⌝ }
     ensures { λ r. ⌜ r ≡ byteMoved c v s ⌝ }
 {
     if is_waiting_on(c, v, s) {
-        return Then::Goes(Step::Wait);
+        return Effect::Goes(Step::Wait);
     }
     if v.last {
         return transfer_over(c, s);
     }
-    Then::Next(entry_step(c))
+    Effect::Next(entry_step(c))
 }
 
-fn own_then(c: Call) -> Then
+fn own_then(c: Call) -> Effect
     ensures { λ r. ⌜ r ≡ ownThen c ⌝ }
 {
-    if call::is_call(c, 1) {
-        return Then::Goes(Step::Enable);
+    if call::is_call(c, Call::New) {
+        return Effect::Goes(Step::Enable);
     }
-    if call::is_call(c, 2) {
-        return Then::Goes(Step::ModifyRead(Modify::PeOn));
+    if call::is_call(c, Call::TargetNew) {
+        return Effect::Goes(Step::ModifyRead(Modify::PeOn));
     }
-    Then::Ends(Outcome::Done(0))
+    Effect::Ends(Outcome::Done(0))
 }
 
 // After a modify's write.
-fn written(c: Call, v: View, s: SavedCall, m: Modify) -> Then
+fn written(c: Call, v: View, s: SavedCall, m: Modify) -> Effect
     requires { ⌜ Small s ⌝ }
     ensures { λ r. ⌜ r ≡ writtenAt c v s m ⌝ }
 {
     match m {
         Modify::PeOff => {
-            if call::is_call(c, 6) {
-                return Then::Goes(Step::Delay1);
+            if call::is_call(c, Call::Reset) {
+                return Effect::Goes(Step::Delay1);
             }
-            Then::Goes(Step::Timing)
+            Effect::Goes(Step::Timing)
         }
-        Modify::PeOn => Then::Ends(Outcome::Done(0)),
-        Modify::Listen => Then::Ends(Outcome::Done(0)),
+        Modify::PeOn => Effect::Ends(Outcome::Done(0)),
+        Modify::Listen => Effect::Ends(Outcome::Done(0)),
         Modify::NackSet => {
-            if call::is_call(c, 15) {
-                return Then::Goes(Step::ModifyRead(Modify::ReloadOff));
+            if call::is_call(c, Call::NackTransfer) {
+                return Effect::Goes(Step::ModifyRead(Modify::ReloadOff));
             }
-            Then::Ends(Outcome::Done(count(c, s)))
+            Effect::Ends(Outcome::Done(count(c, s)))
         }
-        Modify::ReloadOff => Then::Ends(Outcome::Done(0)),
-        Modify::SbcOff => Then::Goes(Step::ModifyRead(Modify::ReloadClear)),
-        Modify::ReloadClear => find_address(c, v.some, s),
-        Modify::SbcOn => Then::Goes(Step::ModifyRead(Modify::ReloadOn)),
-        Modify::ReloadOn => event_over(c, v.some, s),
+        Modify::ReloadOff => Effect::Ends(Outcome::Done(0)),
+        Modify::SbcOff => Effect::Goes(Step::ModifyRead(Modify::ReloadClear)),
+        Modify::ReloadClear => find_address(c, v.nonempty, s),
+        Modify::SbcOn => Effect::Goes(Step::ModifyRead(Modify::ReloadOn)),
+        Modify::ReloadOn => event_over(c, v.nonempty, s),
         Modify::NbytesSet => {
             if s.piece == 0 {
-                return Then::Goes(Step::TransferClear);
+                return Effect::Goes(Step::TransferClear);
             }
-            Then::Goes(Step::Wait)
+            Effect::Goes(Step::Wait)
         }
     }
 }
 
-fn start_status(a: u32) -> Then
+fn start_status(a: u32) -> Effect
     ensures { λ r. ⌜ r ≡ errorOr a (nackOr a (Goes StartControl)) ⌝ }
 {
-    error_or(a, nack_or(a, Then::Goes(Step::StartControl)))
+    error_or(a, nack_or(a, Effect::Goes(Step::StartControl)))
 }
 
-fn wait(c: Call, v: View, s: SavedCall, a: u32) -> Then
+fn wait(c: Call, v: View, s: SavedCall, a: u32) -> Effect
     requires { ⌜ Small s ⌝ }
     ensures { λ r. ⌜ r ≡ errorOr a (waitAt c v s a (awaited c v s)) ⌝ }
 {
@@ -419,88 +422,88 @@ fn wait(c: Call, v: View, s: SavedCall, a: u32) -> Then
 }
 
 // What the answer leads to, in the saved call that `note` gave.
-fn then(c: Call, d: Description, v: View, s: SavedCall, a: u32, t: Step) -> Then
+fn effect(c: Call, d: Description, v: View, s: SavedCall, a: u32, t: Step) -> Effect
     requires { ⌜ Small s ⌝ }
-    ensures { λ r. ⌜ r ≡ thenAt c d v s a t ⌝ }
+    ensures { λ r. ⌜ r ≡ effectAt c d v s a t ⌝ }
 {
     let o = s.outcome;
     match t {
-        Step::Ended => Then::Ends(o),
-        Step::Begin => Then::Goes(Step::StartStatus),
+        Step::Ended => Effect::Ends(o),
+        Step::Begin => Effect::Goes(Step::StartStatus),
         Step::StartStatus => start_status(a),
         Step::StartControl => {
             if Cr2(a).start() {
-                return Then::Goes(Step::StartStatus);
+                return Effect::Goes(Step::StartStatus);
             }
-            Then::Goes(Step::Wait)
+            Effect::Goes(Step::Wait)
         }
         Step::Wait => wait(c, v, s, a),
         Step::Byte => byte_moved(c, v, s),
         Step::StopClear => {
             if call::is_transaction(c) {
-                return Then::Ends(o);
+                return Effect::Ends(o);
             }
             stop_event(c)
         }
         Step::BusClear => fail(c, s, Outcome::Bus),
         Step::ArbitrationClear => fail(c, s, Outcome::Arbitration),
-        Step::NackClear => Then::Goes(Step::FlushTxis),
+        Step::NackClear => Effect::Goes(Step::FlushTxis),
         Step::FlushTxis => {
             if Isr(a).txis() {
-                return Then::Goes(Step::FlushByte);
+                return Effect::Goes(Step::FlushByte);
             }
-            Then::Goes(Step::FlushTxe)
+            Effect::Goes(Step::FlushTxe)
         }
-        Step::FlushByte => Then::Goes(Step::FlushTxe),
+        Step::FlushByte => Effect::Goes(Step::FlushTxe),
         Step::FlushTxe => {
             if Isr(a).txe() {
                 return not_acknowledged(c, s);
             }
-            Then::Goes(Step::Flush)
+            Effect::Goes(Step::Flush)
         }
         Step::Flush => not_acknowledged(c, s),
         Step::Timing => {
             let config = d.config;
             if call::has_configuration(config) {
-                return Then::Goes(Step::Own);
+                return Effect::Goes(Step::Own);
             }
             own_then(c)
         }
         Step::Own => {
             let config = d.config;
             if call::has_secondary(config) {
-                return Then::Goes(Step::Secondary);
+                return Effect::Goes(Step::Secondary);
             }
             own_then(c)
         }
         Step::Secondary => own_then(c),
-        Step::Enable => Then::Ends(Outcome::Done(0)),
-        Step::Delay1 => Then::Goes(Step::Delay2),
-        Step::Delay2 => Then::Goes(Step::Disabled),
+        Step::Enable => Effect::Ends(Outcome::Done(0)),
+        Step::Delay1 => Effect::Goes(Step::Delay2),
+        Step::Delay2 => Effect::Goes(Step::Disabled),
         Step::Disabled => {
             if Cr1(a).pe() {
-                return Then::Goes(Step::Disabled);
+                return Effect::Goes(Step::Disabled);
             }
-            Then::Goes(Step::ModifyRead(Modify::PeOn))
+            Effect::Goes(Step::ModifyRead(Modify::PeOn))
         }
         Step::Event => event_in(c, a),
-        Step::EventFlush => Then::Goes(clear_step(c)),
+        Step::EventFlush => Effect::Goes(clear_step(c)),
         Step::EventClear => {
             if call::is_manual(c) {
-                return event_over(c, v.some, s);
+                return event_over(c, v.nonempty, s);
             }
-            find_address(c, v.some, s)
+            find_address(c, v.nonempty, s)
         }
-        Step::Address => address_found(c, v.some, s),
-        Step::TransferClear => Then::Goes(Step::Wait),
-        Step::ModifyRead(m) => Then::Loads(Step::ModifyWrite(m)),
+        Step::Address => address_found(c, v.nonempty, s),
+        Step::TransferClear => Effect::Goes(Step::Wait),
+        Step::ModifyRead(m) => Effect::Loads(Step::ModifyWrite(m)),
         Step::ModifyWrite(m) => written(c, v, s, m),
     }
 }
 
 // The counter of accesses stays at its end.
 pub fn one_more(n: u32) -> u32
-    ensures { λ r. ⌜ r ≡ more n ⌝ }
+    ensures { λ r. ⌜ r ≡ oneMore n ⌝ }
 {
     if n == 0xFFFF_FFFF {
         return n;
@@ -508,37 +511,37 @@ pub fn one_more(n: u32) -> u32
     n + 1
 }
 
-fn apply(s: SavedCall, a: u32, t: Then) -> SavedCall
+fn apply(s: SavedCall, a: u32, t: Effect) -> SavedCall
     requires { ⌜ s .piece ≤ 65535 ⌝ }
     ensures { λ r. ⌜ r ≡ applyOf s a t ⌝ }
 {
     let n = one_more(s.accesses);
     match t {
-        Then::Goes(to) => SavedCall {
+        Effect::Goes(to) => SavedCall {
             accesses: n,
             step: to,
             ..s
         },
-        Then::Loads(to) => SavedCall {
+        Effect::Loads(to) => SavedCall {
             word: a,
             accesses: n,
             step: to,
             ..s
         },
-        Then::Notes(o, to) => SavedCall {
+        Effect::Notes(o, to) => SavedCall {
             accesses: n,
             outcome: o,
             step: to,
             ..s
         },
-        Then::Next(to) => SavedCall {
+        Effect::Next(to) => SavedCall {
             piece: s.piece + 1,
             byte: 0,
             accesses: n,
             step: to,
             ..s
         },
-        Then::Enters(to) => SavedCall {
+        Effect::Enters(to) => SavedCall {
             piece: 0,
             byte: 0,
             accesses: n,
@@ -546,13 +549,13 @@ fn apply(s: SavedCall, a: u32, t: Then) -> SavedCall
             step: to,
             ..s
         },
-        Then::Fails(o) => SavedCall {
+        Effect::Fails(o) => SavedCall {
             accesses: n,
             outcome: o,
             step: Step::Wait,
             ..s
         },
-        Then::Ends(o) => SavedCall {
+        Effect::Ends(o) => SavedCall {
             accesses: n,
             outcome: o,
             step: Step::Ended,
@@ -562,25 +565,25 @@ fn apply(s: SavedCall, a: u32, t: Then) -> SavedCall
 }
 
 pub fn is_ended(t: Step) -> bool
-    ensures { λ r. ⌜ r ≡ is t Ended ⌝ }
+    ensures { λ r. ⌜ r ≡ sameStep t Ended ⌝ }
 {
     if let Step::Ended = t { true } else { false }
 }
 
 pub fn is_wait(t: Step) -> bool
-    ensures { λ r. ⌜ r ≡ is t Wait ⌝ }
+    ensures { λ r. ⌜ r ≡ sameStep t Wait ⌝ }
 {
     if let Step::Wait = t { true } else { false }
 }
 
 pub fn is_byte(t: Step) -> bool
-    ensures { λ r. ⌜ r ≡ is t Byte ⌝ }
+    ensures { λ r. ⌜ r ≡ sameStep t Byte ⌝ }
 {
     if let Step::Byte = t { true } else { false }
 }
 
 fn is_address(t: Step) -> bool
-    ensures { λ r. ⌜ r ≡ is t Address ⌝ }
+    ensures { λ r. ⌜ r ≡ sameStep t Address ⌝ }
 {
     if let Step::Address = t { true } else { false }
 }
@@ -607,7 +610,7 @@ fn counted_at(v: View, s: SavedCall) -> SavedCall
 fn readdress(o: Outcome, n: u32) -> Outcome
     ensures { λ r. ⌜ r ≡ readdressed o n ⌝ }
 {
-    if call::is_event_read(o) {
+    if outcome::is_event_read(o) {
         return Outcome::EventRead(n);
     }
     Outcome::EventWrite(n)
@@ -645,7 +648,7 @@ fn after_small(c: Call, d: Description, v: View, s: SavedCall, a: u32) -> SavedC
 {
     let t = s.step;
     let n = note(v, s, a);
-    apply(n, a, then(c, d, v, n, a, t))
+    apply(n, a, effect(c, d, v, n, a, t))
 }
 
 fn is_small(v: View, s: SavedCall) -> bool
@@ -667,54 +670,47 @@ pub fn after(c: Call, d: Description, v: View, s: SavedCall, a: u32) -> SavedCal
 
 // The calls that turn the peripheral off first.
 fn is_resetting(c: Call) -> bool
-    ensures { λ r. ⌜ r ≡ (call c 1 || (call c 2 || call c 6)) ⌝ }
+    ensures { λ r. ⌜ r ≡ (isCall c New || (isCall c TargetNew || isCall c Reset)) ⌝ }
 {
-    call::is_call(c, 1) || (call::is_call(c, 2) || call::is_call(c, 6))
+    call::is_call(c, Call::New)
+        || (call::is_call(c, Call::TargetNew) || call::is_call(c, Call::Reset))
 }
 
 fn is_listening(c: Call) -> bool
-    ensures { λ r. ⌜ r ≡ (call c 4 || call c 5) ⌝ }
+    ensures { λ r. ⌜ r ≡ (isCall c EnableTargetEvent || isCall c DisableTargetEvent) ⌝ }
 {
-    call::is_call(c, 4) || call::is_call(c, 5)
+    call::is_call(c, Call::EnableTargetEvent) || call::is_call(c, Call::DisableTargetEvent)
 }
 
-fn begin_step(c: Call, some: bool) -> Step
-    ensures { λ r. ⌜ r ≡ beginAt c some ⌝ }
+fn begin_step(c: Call, nonempty: bool) -> Step
+    ensures { λ r. ⌜ r ≡ beginAt c nonempty ⌝ }
 {
     if is_resetting(c) {
         return Step::ModifyRead(Modify::PeOff);
     }
-    if call::is_call(c, 3) {
+    if call::is_call(c, Call::ConfigureTargetAddresses) {
         return Step::Own;
     }
     if is_listening(c) {
         return Step::ModifyRead(Modify::Listen);
     }
-    if call::is_call(c, 14) {
+    if call::is_call(c, Call::AckTransfer) {
         return Step::ModifyRead(Modify::ReloadOff);
     }
-    if call::is_call(c, 15) {
+    if call::is_call(c, Call::NackTransfer) {
         return Step::ModifyRead(Modify::NackSet);
     }
     if call::is_eventful(c) {
         return Step::Event;
     }
-    if some {
+    if nonempty {
         return entry_step(c);
     }
     Step::Ended
 }
 
-pub fn begin_at(c: Call, some: bool) -> SavedCall
-    ensures { λ r. ⌜ r ≡ startAt c (beginAt c some) ⌝ }
+pub fn begin_at(c: Call, nonempty: bool) -> SavedCall
+    ensures { λ r. ⌜ r ≡ startAt c (beginAt c nonempty) ⌝ }
 {
-    SavedCall {
-        call: call::number(c),
-        piece: 0,
-        byte: 0,
-        word: 0,
-        accesses: 0,
-        outcome: Outcome::Done(0),
-        step: begin_step(c, some),
-    }
+    saved_call::fresh(call::number(c), begin_step(c, nonempty))
 }

@@ -6,8 +6,8 @@ use Prim.Native.Nat.{ℕ}
 use Rattle.fields.specs.Field.{putOf, withBits}
 use Rattle.registers.specs.Addresses.{sevenBitOwn, masked}
 use Rattle.timing.specs.Bands.{timingOf, bandOf, inBandOf, equalAt, doubleAt}
-use Rattle.timing.specs.Refusals.{numberOf}
-use Rattle.timing.specs.Timingr.{wordOf}
+use Rattle.timing.specs.Refusals.{timingRefusalNumber}
+use Rattle.timing.specs.Timingr.{timingrWord}
 use Rattle.timing.specs.declared.Timed.{Timed}
 use Rattle.timing.specs.declared.Timed.the-variants.{Timing, Refused}
 
@@ -16,8 +16,8 @@ pub data Answer : Type 0 where
   refused : ℕ → Answer
 
 abbrev pub answerOf : Timed → Answer
-answerOf (Timing t) = word (wordOf t)
-answerOf (Refused why) = refused (numberOf why)
+answerOf (Timing t) = word (timingrWord t)
+answerOf (Refused why) = refused (timingRefusalNumber why)
 
 -- what is asked: a timing of clock and frequency, OAR1 of an own address, OAR2 of a secondary one and its mask
 pub data Question : Type 0 where

@@ -15,11 +15,11 @@ use denote.Triple.Clauses
 use Rattle.fields.proofs.Laws.{and-l, and-r}
 use Rattle.fields.specs.Field.{getOf, bitsAt}
 use Rattle.timing.specs.Bands.{timingOf, bandOf, inBandOf, equalAt, doubleAt}
-use Rattle.timing.specs.Refusals.{numberOf}
+use Rattle.timing.specs.Refusals.{timingRefusalNumber}
 use Rattle.timing.specs.Timingr.{packOf, unpackOf}
 use Rattle.timing.specs.declared.Packed.the-variants as packed
-use Rattle.timing.specs.declared.Refusal.{Refusal}
-use Rattle.timing.specs.declared.Refusal.the-variants.{NoSpeed, ClockOver, Ratio, ClockSlow, SpeedLow, NoSetup, FieldWide}
+use Rattle.timing.specs.declared.TimingRefusal.{TimingRefusal}
+use Rattle.timing.specs.declared.TimingRefusal.the-variants.{NoSpeed, ClockOver, Ratio, ClockSlow, SpeedLow, NoSetup, FieldWide}
 use Rattle.timing.specs.declared.Timed.{Timed}
 use Rattle.timing.specs.declared.Timed.the-variants.{Timing, Refused}
 use Rattle.timing.proofs.Round.{Within, packs, sum}
@@ -32,9 +32,9 @@ use Rattle.timing.proofs.I2cTiming.pack.Reads as pack-reads
 use Rattle.timing.proofs.RawTimingr.unpack as unpack
 use Rattle.timing.proofs.RawTimingr.unpack.Kinds as unpack-kinds
 use Rattle.timing.proofs.RawTimingr.unpack.Reads as unpack-reads
-use Rattle.timing.proofs.Refusal.number as number
-use Rattle.timing.proofs.Refusal.number.Kinds as number-kinds
-use Rattle.timing.proofs.Refusal.number.Reads as number-reads
+use Rattle.timing.proofs.TimingRefusal.number as number
+use Rattle.timing.proofs.TimingRefusal.number.Kinds as number-kinds
+use Rattle.timing.proofs.TimingRefusal.number.Reads as number-reads
 
 -- ---- No function asks anything of its caller.
 
@@ -177,8 +177,8 @@ module _ (κs : Lfts 0) (a : borrow.Fn.World.ArgsD unpack.signature κs) (t : bo
 
 module _ (κs : Lfts 0) (a : borrow.Fn.World.ArgsD number.signature κs) (n : borrow.Fn.World.ResD number.signature κs)
     (x : denote.Triple.Clauses.AtExit (borrow.Fn.Kinds.endedOf 0 number-kinds.ps number-kinds.r) κs) (contract : number-reads.Post κs a n x) where
-  is : (r : Refusal) → a .0 ≡ r → n ≡ numberOf r
-  is r e = contract ∙ ap numberOf e
+  is : (r : TimingRefusal) → a .0 ≡ r → n ≡ timingRefusalNumber r
+  is r e = contract ∙ ap timingRefusalNumber e
 
   pub numbers :
       (a .0 ≡ NoSpeed → n ≡ 1) × (a .0 ≡ ClockOver → n ≡ 2) × (a .0 ≡ Ratio → n ≡ 3) × (a .0 ≡ ClockSlow → n ≡ 4)

@@ -9,7 +9,7 @@ use lib.Pow.{split, shr-shr, shr-mod}
 use Rattle.fields.specs.Field.{getOf, putOf, bitsAt}
 use Rattle.fields.proofs.Laws.{get-put, get-apart, get-lt, put-on}
 use Rattle.registers.specs.Places.{TIMINGR-PRESC, TIMINGR-SCLDEL, TIMINGR-SDADEL, TIMINGR-SCLH, TIMINGR-SCLL}
-use Rattle.timing.specs.Timingr.{wordOf, rawOf, packOf, reserved, unpackOf}
+use Rattle.timing.specs.Timingr.{timingrWord, rawOf, packOf, reserved, unpackOf}
 use Rattle.timing.specs.declared.I2cTiming.{I2cTiming}
 use Rattle.timing.specs.declared.RawTimingr.{RawTimingr}
 use Rattle.timing.specs.declared.Packed.the-variants.{Raw}
@@ -42,7 +42,7 @@ unpack-pack t b =
 
 -- a word of fields within their widths is their sum
 pub sum : (t : I2cTiming) → Within t
-    → wordOf t ≡ t .presc * 2 ^ 28 + (t .scldel * 2 ^ 20 + (t .sdadel * 2 ^ 16 + (t .sclh * 2 ^ 8 + t .scll)))
+    → timingrWord t ≡ t .presc * 2 ^ 28 + (t .scldel * 2 ^ 20 + (t .sdadel * 2 ^ 16 + (t .sclh * 2 ^ 8 + t .scll)))
 sum t b = rw (e₁, e₂, e₃, e₄) e₅
   where
     e₁ : putOf 0 TIMINGR-SCLL (t .scll) ≡ t .scll

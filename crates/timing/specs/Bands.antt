@@ -10,7 +10,7 @@ use Rattle.timing.specs.declared.Shape.the-variants.{Equal, Double}
 use Rattle.timing.specs.declared.I2cTiming.{I2cTiming}
 use Rattle.timing.specs.declared.Timed.{Timed}
 use Rattle.timing.specs.declared.Timed.the-variants.{Timing, Refused}
-use Rattle.timing.specs.declared.Refusal.the-variants.{NoSpeed, ClockOver, Ratio, ClockSlow, SpeedLow, NoSetup}
+use Rattle.timing.specs.declared.TimingRefusal.the-variants.{NoSpeed, ClockOver, Ratio, ClockSlow, SpeedLow, NoSetup}
 
 abbrev pub row : ℕ → ℕ → ℕ → ℕ → ℕ → Shape → Band
 row upper least d sdadel scldel shape =

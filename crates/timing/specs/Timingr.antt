@@ -8,11 +8,11 @@ use Rattle.timing.specs.declared.I2cTiming.{I2cTiming}
 use Rattle.timing.specs.declared.RawTimingr.{RawTimingr}
 use Rattle.timing.specs.declared.Packed.{Packed}
 use Rattle.timing.specs.declared.Packed.the-variants.{Raw, Refused}
-use Rattle.timing.specs.declared.Refusal.the-variants.{FieldWide}
+use Rattle.timing.specs.declared.TimingRefusal.the-variants.{FieldWide}
 
 -- The word of a timing: each number in its field.
-abbrev pub wordOf : I2cTiming → ℕ
-wordOf t =
+abbrev pub timingrWord : I2cTiming → ℕ
+timingrWord t =
     putOf
     (putOf
     (putOf
@@ -24,7 +24,7 @@ wordOf t =
     TIMINGR-PRESC (t .presc)
 
 abbrev pub rawOf : I2cTiming → RawTimingr
-rawOf t = record { 0 = wordOf t }
+rawOf t = record { 0 = timingrWord t }
 
 -- Refused where a field of four bits does not hold its number; SCLH and SCLL hold every byte.
 unfoldable pub packOf : I2cTiming → Packed

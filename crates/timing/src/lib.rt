@@ -2,7 +2,7 @@
 // Every clock, frequency, timing and word has an answer, which is a numbered refusal of document 01 where none is right.
 ghost use mathlib.Core.Path.{_≡_};
 ghost use Prim.Native.Nat.{_+_, _-_, _*_, _/_, _≤_, _<_};
-ghost use Rattle.timing.specs.Refusals.{numberOf};
+ghost use Rattle.timing.specs.Refusals.{timingRefusalNumber};
 ghost use Rattle.timing.specs.Timingr.{rawOf, packOf, unpackOf};
 ghost use Rattle.timing.specs.Bands.{row, bandOf, held, fieldsOf, equalAt, doubleAt, shapedOf, inBandOf, timingOf};
 ghost use Rattle.timing.specs.Bounds.{Usable, Divider, Capped};
@@ -19,7 +19,7 @@ pub struct I2cTiming {
     pub scll: u8,
 }
 
-pub enum Refusal {
+pub enum TimingRefusal {
     NoSpeed,
     ClockOver,
     Ratio,
@@ -29,30 +29,30 @@ pub enum Refusal {
     FieldWide,
 }
 
-impl Refusal {
+impl TimingRefusal {
     pub fn number(self) -> u32
-        ensures { λ r. ⌜ r ≡ numberOf self ⌝ }
+        ensures { λ r. ⌜ r ≡ timingRefusalNumber self ⌝ }
     {
         match self {
-            Refusal::NoSpeed => 1,
-            Refusal::ClockOver => 2,
-            Refusal::Ratio => 3,
-            Refusal::ClockSlow => 4,
-            Refusal::SpeedLow => 5,
-            Refusal::NoSetup => 6,
-            Refusal::FieldWide => 7,
+            TimingRefusal::NoSpeed => 1,
+            TimingRefusal::ClockOver => 2,
+            TimingRefusal::Ratio => 3,
+            TimingRefusal::ClockSlow => 4,
+            TimingRefusal::SpeedLow => 5,
+            TimingRefusal::NoSetup => 6,
+            TimingRefusal::FieldWide => 7,
         }
     }
 }
 
 pub enum Packed {
     Raw(RawTimingr),
-    Refused(Refusal),
+    Refused(TimingRefusal),
 }
 
 pub enum Timed {
     Timing(I2cTiming),
-    Refused(Refusal),
+    Refused(TimingRefusal),
 }
 
 impl I2cTiming {
@@ -73,13 +73,13 @@ impl I2cTiming {
         ensures { λ r. ⌜ r ≡ packOf self ⌝ }
     {
         if self.presc > 15 {
-            return Packed::Refused(Refusal::FieldWide);
+            return Packed::Refused(TimingRefusal::FieldWide);
         }
         if self.scldel > 15 {
-            return Packed::Refused(Refusal::FieldWide);
+            return Packed::Refused(TimingRefusal::FieldWide);
         }
         if self.sdadel > 15 {
-            return Packed::Refused(Refusal::FieldWide);
+            return Packed::Refused(TimingRefusal::FieldWide);
         }
         Packed::Raw(self.word())
     }
@@ -238,7 +238,7 @@ fn equal_at(clock: u32, r: u32, b: Band, p: u32) -> Timed
 {
     let x = clock / b.scldel / p;
     if x == 0 {
-        return Timed::Refused(Refusal::NoSetup);
+        return Timed::Refused(TimingRefusal::NoSetup);
     }
     let h = half(r, p);
     Timed::Timing(fields_of(clock, b, p, h, h))
@@ -260,7 +260,7 @@ fn equal(clock: u32, r: u32, b: Band) -> Timed
     ensures { λ t. ⌜ t ≡ shapedOf Shape.Equal clock r b ⌝ }
 {
     if r >= 8_224 {
-        return Timed::Refused(Refusal::SpeedLow);
+        return Timed::Refused(TimingRefusal::SpeedLow);
     }
     equal_at(clock, r, b, capped(r, b.d))
 }
@@ -272,7 +272,7 @@ fn double(clock: u32, r: u32, b: Band) -> Timed
     ensures { λ t. ⌜ t ≡ shapedOf Shape.Double clock r b ⌝ }
 {
     if r >= 1_537 {
-        return Timed::Refused(Refusal::SpeedLow);
+        return Timed::Refused(TimingRefusal::SpeedLow);
     }
     double_at(clock, r, b, divider(r, b.d))
 }
@@ -283,7 +283,7 @@ fn in_band(clock: u32, r: u32, b: Band) -> Timed
     ensures { λ t. ⌜ t ≡ inBandOf clock r b ⌝ }
 {
     if clock < b.least {
-        return Timed::Refused(Refusal::ClockSlow);
+        return Timed::Refused(TimingRefusal::ClockSlow);
     }
     let shape = b.shape;
     match shape {
@@ -297,14 +297,14 @@ pub fn calc_timing_params(clock: u32, frequency: u32) -> Timed
     ensures { λ t. ⌜ t ≡ timingOf clock frequency ⌝ }
 {
     if frequency == 0 {
-        return Timed::Refused(Refusal::NoSpeed);
+        return Timed::Refused(TimingRefusal::NoSpeed);
     }
     if clock > 250_000_000 {
-        return Timed::Refused(Refusal::ClockOver);
+        return Timed::Refused(TimingRefusal::ClockOver);
     }
     let r = clock / frequency;
     if r < 4 {
-        return Timed::Refused(Refusal::Ratio);
+        return Timed::Refused(TimingRefusal::Ratio);
     }
     in_band(clock, r, band_of(frequency))
 }

@@ -8,8 +8,8 @@ use numerals::Parsed;
 use timing::I2cTiming;
 use timing::Packed;
 use timing::RawTimingr;
-use timing::Refusal;
 use timing::Timed;
+use timing::TimingRefusal;
 
 // The longest line that is read; a longer one counts as not two numbers.
 const LINE: usize = 256;
@@ -53,17 +53,17 @@ fn print_timing(t: I2cTiming, word: RawTimingr) {
     print_field(b" scll ", t.scll);
 }
 
-fn print_refusal(r: Refusal) {
+fn print_refusal(r: TimingRefusal) {
     print(b" refused ");
     print_number(r.number());
     match r {
-        Refusal::NoSpeed => print(b" no speed"),
-        Refusal::ClockOver => print(b" clock over"),
-        Refusal::Ratio => print(b" ratio"),
-        Refusal::ClockSlow => print(b" clock slow"),
-        Refusal::SpeedLow => print(b" speed low"),
-        Refusal::NoSetup => print(b" no setup"),
-        Refusal::FieldWide => print(b" field wide"),
+        TimingRefusal::NoSpeed => print(b" no speed"),
+        TimingRefusal::ClockOver => print(b" clock over"),
+        TimingRefusal::Ratio => print(b" ratio"),
+        TimingRefusal::ClockSlow => print(b" clock slow"),
+        TimingRefusal::SpeedLow => print(b" speed low"),
+        TimingRefusal::NoSetup => print(b" no setup"),
+        TimingRefusal::FieldWide => print(b" field wide"),
     }
 }
 

@@ -11,24 +11,24 @@ use lib.Dec.{T, eqb, leb, ltb}
 use lib.ListN.{length, getD, take, drop, set, replicate, length-append, length-set, length-take, length-drop, drop-of-length-le}
 use lib.Seq.{drop-cons, take-nil, sets, sets-eq, take-append-seam, length-take-le, drop-drop}
 use borrow.Author.Tests.{eqb-true, leb-true, le-leb, lt-ltb, le-ltb}
-use Rattle.window.specs.Window.{Laid, laid, startOf, full, putOf, emitOf, Shown, shownOf, windowOf, asShown}
-use Rattle.window.specs.declared.Place.{Place}
+use Rattle.window.specs.Window.{Laid, laid, startOf, full, putByte, emitOf, Shown, shownOf, windowOf, asShown}
+use Rattle.window.specs.declared.Cursor.{Cursor}
 
 -- one text after the other
 pub emit-append : (t u : List ℕ) (L : Laid) → emitOf (t ++ u) L ≡ emitOf u (emitOf t L)
 unfolding emitOf
 emit-append [] u L = refl
-emit-append (b ∷ t) u L = emit-append t u (putOf b L)
+emit-append (b ∷ t) u L = emit-append t u (putByte b L)
 
 pub emit-none : (L : Laid) → emitOf [] L ≡ L
 unfolding emitOf
 emit-none L = refl
 
-pub emit-one : (b : ℕ) (L : Laid) → emitOf (b ∷ []) L ≡ putOf b L
+pub emit-one : (b : ℕ) (L : Laid) → emitOf (b ∷ []) L ≡ putByte b L
 unfolding emitOf
 emit-one b L = refl
 
-pub emit-first : (b : ℕ) (t : List ℕ) (L : Laid) → emitOf (b ∷ t) L ≡ emitOf t (putOf b L)
+pub emit-first : (b : ℕ) (t : List ℕ) (L : Laid) → emitOf (b ∷ t) L ≡ emitOf t (putByte b L)
 unfolding emitOf
 emit-first b t L = refl
 
@@ -37,16 +37,16 @@ module _ (b skip at : ℕ) (bytes : List ℕ) where
   abbrev here : Laid
   here = record { skip = skip; at = at; bytes = bytes }
 
-  pub left-out : 0 < skip → record { skip = skip - 1; at = at; bytes = bytes } ≡ putOf b here
-  unfolding putOf
+  pub left-out : 0 < skip → record { skip = skip - 1; at = at; bytes = bytes } ≡ putByte b here
+  unfolding putByte
   left-out h = rw (lt-ltb 0 skip h)
 
-  pub written : skip ≤ 0 → at < length bytes → record { skip = skip; at = at + 1; bytes = set bytes at b } ≡ putOf b here
-  unfolding putOf
+  pub written : skip ≤ 0 → at < length bytes → record { skip = skip; at = at + 1; bytes = set bytes at b } ≡ putByte b here
+  unfolding putByte
   written h l = rw (le-ltb 0 skip h, lt-ltb at (length bytes) l)
 
-  pub no-room : skip ≤ 0 → length bytes ≤ at → here ≡ putOf b here
-  unfolding putOf
+  pub no-room : skip ≤ 0 → length bytes ≤ at → here ≡ putByte b here
+  unfolding putByte
   no-room h l = rw (le-ltb 0 skip h, le-ltb at (length bytes) l)
 
 pub ruleset byte = (left-out, written, no-room)
@@ -56,7 +56,7 @@ both-true : (a b : Bool) → (a && b) ≡ true → (a ≡ true) × (b ≡ true)
 both-true true b h = (refl, h)
 both-true false b h = absurd (subst⁻¹ T h tt)
 
-full-put : (b : ℕ) (L : Laid) → full L ≡ true → putOf b L ≡ L
+full-put : (b : ℕ) (L : Laid) → full L ≡ true → putByte b L ≡ L
 full-put b L h =
     let z = both-true (eqb (L .skip) 0) (leb (length (L .bytes)) (L .at)) h in
     sym (no-room b (L .skip) (L .at) (L .bytes) (omega (arith, eqb-true (L .skip) 0 (z .0))) (leb-true (length (L .bytes)) (L .at) (z .1)))
@@ -72,7 +72,7 @@ module _ (t : List ℕ) (L : Laid) (i : ℕ) (M : Laid) (done : emitOf (drop i t
   unfolding emitOf
   all-put h = rw (drop-of-length-le t h) at done
 
-  pub next-put : i < length t → (b : ℕ) (N : Laid) → b ≡ getD t i 0 → N ≡ putOf b M → emitOf (drop (i + 1) t) N ≡ emitOf t L
+  pub next-put : i < length t → (b : ℕ) (N : Laid) → b ≡ getD t i 0 → N ≡ putByte b M → emitOf (drop (i + 1) t) N ≡ emitOf t L
   unfolding emitOf
   next-put h b N e f = rw (f, e, add-one) (rw (drop-cons t i 0 h) at done)
 
@@ -85,7 +85,7 @@ module _ (n : ℕ) (L : Laid) (k : ℕ) (M : Laid) (done : emitOf (replicate n 0
   pub zeros-full : (r : Bool) → r ≡ full M → r ≡ true → M ≡ emitOf (replicate k 0) L
   zeros-full r e h = sym (full-emit (replicate n 0) M (sym e ∙ h)) ∙ done
 
-  pub next-zero : 0 < n → (N : Laid) → N ≡ putOf 0 M → emitOf (replicate (n - 1) 0) N ≡ emitOf (replicate k 0) L
+  pub next-zero : 0 < n → (N : Laid) → N ≡ putByte 0 M → emitOf (replicate (n - 1) 0) N ≡ emitOf (replicate k 0) L
   unfolding emitOf
   next-zero h N f = rw f (let e : n ≡ suc (n - 1) = omega arith in rw e at done)
 

@@ -2,40 +2,40 @@
 // laid out in fixed memory, one window after the other.
 ghost use mathlib.Core.Path.{_≡_};
 ghost use lib.ListN.{replicate};
-ghost use Rattle.window.specs.Window.{laid, startOf, full, putOf, emitOf};
+ghost use Rattle.window.specs.Window.{laid, startOf, full, putByte, emitOf};
 
 // Where the text stands: how many of its bytes are still to be left out, and how many were written.
-pub struct Place {
+pub struct Cursor {
     pub skip: usize,
     pub at: usize,
 }
 
-impl Place {
+impl Cursor {
     // Before the first byte, where the window begins at the text's byte `from`.
-    pub fn new(from: usize) -> Place
+    pub fn new(from: usize) -> Cursor
         ensures { λ r. ⌜ r ≡ startOf from ⌝ }
     {
-        Place { skip: from, at: 0 }
+        Cursor { skip: from, at: 0 }
     }
 }
 
 // One byte of the text.
-pub fn put(p: Place, b: u8, out: &mut [u8]) -> Place
-    ensures { λ r. ⌜ laid r (now (out .exit)) ≡ putOf b (laid p (now (out .entry))) ⌝ }
+pub fn put(p: Cursor, b: u8, out: &mut [u8]) -> Cursor
+    ensures { λ r. ⌜ laid r (now (out .exit)) ≡ putByte b (laid p (now (out .entry))) ⌝ }
 {
     let skip = p.skip;
     let at = p.at;
     if 0 < skip {
-        return Place { skip: skip - 1, at };
+        return Cursor { skip: skip - 1, at };
     }
     if at < out.len() {
         out[at] = b;
-        return Place { skip, at: at + 1 };
+        return Cursor { skip, at: at + 1 };
     }
     p
 }
 
-pub fn put_all(p: Place, text: &[u8], out: &mut [u8]) -> Place
+pub fn put_all(p: Cursor, text: &[u8], out: &mut [u8]) -> Cursor
     ensures { λ r. ⌜ laid r (now (out .exit)) ≡ emitOf (now (text .entry)) (laid p (now (out .entry))) ⌝ }
 {
     let mut q = p;
@@ -45,14 +45,14 @@ pub fn put_all(p: Place, text: &[u8], out: &mut [u8]) -> Place
     q
 }
 
-fn is_full(p: Place, out: &[u8]) -> bool
+fn is_full(p: Cursor, out: &[u8]) -> bool
     ensures { λ r. ⌜ r ≡ full (laid p (now (out .entry))) ⌝ }
 {
     (p.skip == 0) & (out.len() <= p.at)
 }
 
 // So many zeros; those that a full window has no room for cost nothing.
-pub fn put_zeros(p: Place, n: usize, out: &mut [u8]) -> Place
+pub fn put_zeros(p: Cursor, n: usize, out: &mut [u8]) -> Cursor
     ensures { λ r. ⌜ laid r (now (out .exit)) ≡ emitOf (replicate n 0) (laid p (now (out .entry))) ⌝ }
 {
     let mut q = p;

@@ -6,11 +6,9 @@ use native.Mathlib.Omega.{arith}
 use mathlib.Core.Path.{_≡_, refl, sym, ap, _∙_}
 use mathlib.Core.List.{List, [], _∷_, _++_, append-assoc, append-nil}
 use lib.ListN.{length, getD, take, drop, set, length-append, length-take, length-drop, drop-of-length-le, List·getD-eq-default}
-use lib.Seq.{take-nil, take-all, take-suc, take-at, drop-at, drop-append-add, drop-drop, getD-drop, sets, sets-eq, length-take-le}
+use lib.Seq.{take-nil, take-all, take-suc, take-at, take-append-seam, set-split, drop-cons, drop-at, drop-append-add, drop-drop, getD-drop, sets, sets-eq, length-take-le}
 use borrow.Author.Tests.{le-leb, lt-leb}
-use Rattle.window.specs.Window.{Laid, emitOf, asShown, windowOf}
-use Rattle.window.proofs.Laid.{full-emit, written, windowed}
-use Rattle.words.specs.Words.{wordOf, wordsFrom, wordsIn, wordAt, bytesIn, bytesOf, putWords, putWordsAt}
+use Rattle.words.specs.Words.{wordOf, wordsFrom, wordsIn, wordAt, Decoded, asDecoded, decodedOf, bytesIn, bytesOf, putWords, putWordsAt}
 
 -- ---- a word at its place
 pub length-words : (n : ℕ) (b : List ℕ) → length (wordsFrom n b) ≡ n
@@ -39,7 +37,11 @@ module _ (b : List ℕ) (i : ℕ) where
 
 pub ruleset gets = (word-there, no-word)
 
--- ---- decoding: n words are put, and those of `left` are still to come
+pub in-words : (b : List ℕ) → length (wordsIn b) ≡ length b / 4
+unfolding wordsIn
+in-words b = length-words (length b / 4) b
+
+-- ---- decoding
 no-words : (file : List ℕ) → length file < 4 → wordsIn file ≡ []
 unfolding wordsIn
 no-words file h = (let e : length file / 4 ≡ 0 = omega arith in rw e)
@@ -52,28 +54,65 @@ next-word file h = (let e : length file / 4 ≡ suc ((length file - 4) / 4) = om
 pub rest : (s : List ℕ) (n : ℕ) → take (length s - n) (drop n s) ≡ drop n s
 rest s n = take-all (length s - n) (drop n s) (simp length-drop (omega arith))
 
-abbrev pub placed : ℕ → List ℕ → Laid
-placed n words = record { skip = 0; at = n; bytes = words }
+-- n words of ws are put at the front of what was `words`, and those in `bytes` are still to come
+pub record Reading (ws words : List ℕ) (n : ℕ) (now bytes : List ℕ) : Type 0 where
+  pub few : n ≤ length ws
+  pub room : n ≤ length words
+  pub there : now ≡ take n ws ++ drop n words
+  pub left : drop n ws ≡ wordsIn bytes
 
-module _ (file words₀ left words : List ℕ) (n : ℕ)
-    (done : emitOf (wordsIn left) (placed n words) ≡ emitOf (wordsIn file) (placed 0 words₀)) where
-  pub all-decoded : length left < 4 → asShown n words ≡ windowOf 0 (wordsIn file) words₀
-  unfolding emitOf
-  all-decoded h = windowed 0 (wordsIn file) words₀ (placed n words) (rw (no-words left h) at done)
+module _ (file words bytes now : List ℕ) (n : ℕ) (done : Reading (wordsIn file) words n now bytes) where
+  abbrev ws : List ℕ
+  ws = wordsIn file
 
-  pub no-room-left : length words ≤ n → asShown n words ≡ windowOf 0 (wordsIn file) words₀
-  no-room-left h =
-      let full = full-emit (wordsIn left) (placed n words) (le-leb (length words) n h) in
-      windowed 0 (wordsIn file) words₀ (placed n words) (sym full ∙ done)
+  so-far : take (length words) ws ≡ take n ws → asDecoded n now ≡ decodedOf 0 file words
+  unfolding decodedOf
+  so-far e = rw (e, length-take-le n ws (done .few), done .there)
 
-  pub next-decoded : (w : ℕ) → 4 ≤ length left → n < length words →
-      w ≡ wordOf (getD left 0 0) (getD left 1 0) (getD left 2 0) (getD left 3 0) →
-      emitOf (wordsIn (take (length left - 4) (drop 4 left))) (placed (n + 1) (set words n w))
-      ≡ emitOf (wordsIn file) (placed 0 words₀)
-  unfolding emitOf
-  next-decoded w h l e = rw (rest left 4, written w 0 n words (omega arith) l, e) (rw (next-word left h) at done)
+  pub all-decoded : length bytes < 4 → asDecoded n now ≡ decodedOf 0 file words
+  all-decoded h =
+      let z : length ws ≤ n = omega (arith, length-drop n ws, ap length (done .left ∙ no-words bytes h), done .few) in
+      so-far (take-all (length words) ws (omega (arith, done .room)) ∙ sym (take-all n ws z))
+
+  pub no-room-left : length now ≤ n → length now ≡ length words → asDecoded n now ≡ decodedOf 0 file words
+  no-room-left h z = so-far (let e : length words ≡ n = omega (arith, done .room) in rw e)
+
+  pub next-decoded : (w : ℕ) → 4 ≤ length bytes → n < length now → length now ≡ length words →
+      w ≡ wordOf (getD bytes 0 0) (getD bytes 1 0) (getD bytes 2 0) (getD bytes 3 0) →
+      Reading ws words (n + 1) (set now n w) (take (length bytes - 4) (drop 4 bytes))
+  next-decoded w h lt z e =
+      let next = done .left ∙ next-word bytes h in
+      let some : n < length ws = omega (arith, ap length next, length-drop n ws) in
+      let both : getD ws n 0 ∷ drop (suc n) ws ≡ w ∷ wordsIn (drop 4 bytes) = sym (drop-cons ws n 0 some) ∙ next ∙ rw e in
+      let it : getD ws n 0 ≡ w = cc in
+      let then : drop (suc n) ws ≡ wordsIn (drop 4 bytes) = cc in
+      let front = length-take-le n ws (done .few) in
+      let behind : drop (suc n) now ≡ drop (suc n) words =
+      rw (← add-one n, ← drop-drop 1 n now, done .there, drop-at (take n ws) (drop n words) n front) (drop-drop 1 n words) in
+      record {
+        few = omega (arith, some);
+        room = omega arith;
+        there = rw (add-one, take-suc ws n 0 some, it)
+            (set-split now n w lt ∙ rw (behind, done .there, take-at (take n ws) (drop n words) n front) (sym (append-assoc (take n ws) (w ∷ []) (drop (suc n) words))));
+        left = rw (add-one, rest bytes 4) then;
+      }
 
 pub ruleset decodes = (all-decoded, no-room-left, next-decoded)
+
+-- what stands in the slice then
+module _ (i : ℕ) (bytes words : List ℕ) (n : ℕ) (words′ : List ℕ) (E : asDecoded n words′ ≡ decodedOf i bytes words) where
+  pub decoded-words : take n words′ ≡ take (length words) (drop i (wordsIn bytes))
+  unfolding decodedOf
+  decoded-words =
+      rw (ap (λ (D : Decoded). D .count) E, ap (λ (D : Decoded). D .words) E)
+      (take-append-seam (take (length words) (drop i (wordsIn bytes))) _)
+
+  pub decoded-room : n ≤ length words′
+  unfolding decodedOf
+  decoded-room = rw (ap (λ (D : Decoded). D .count) E, ap (λ (D : Decoded). D .words) E, length-append) (omega arith)
+
+  pub decoded-count : n ≡ length (take n words′)
+  decoded-count = sym (length-take-le n words′ decoded-room)
 
 -- from word number i on
 from-drop : (n i : ℕ) (b : List ℕ) → i ≤ n → wordsFrom (n - i) (drop (4 * i) b) ≡ drop i (wordsFrom n b)
@@ -91,13 +130,13 @@ words-drop b i h =
     rw (length-drop (4 * i) b, e) (from-drop (length b / 4) i b h)
 
 module _ (b : List ℕ) (i : ℕ) (words : List ℕ) where
-  pub none-from : length b / 4 < i → asShown 0 words ≡ windowOf i (wordsIn b) words
-  unfolding windowOf wordsIn
-  none-from h = rw (drop-of-length-le (wordsFrom (length b / 4) b) {i = i} (rw (length-words (length b / 4) b) (omega arith)), take-nil (length words))
+  pub none-from : length b / 4 < i → asDecoded 0 words ≡ decodedOf i b words
+  unfolding decodedOf
+  none-from h = rw (drop-of-length-le (wordsIn b) {i = i} (rw (in-words b) (omega arith)), take-nil (length words))
 
   pub some-from : (n : ℕ) (part words′ : List ℕ) → i ≤ length b / 4 → part ≡ drop (4 * i) b →
-      asShown n words′ ≡ windowOf 0 (wordsIn part) words → asShown n words′ ≡ windowOf i (wordsIn b) words
-  unfolding windowOf
+      asDecoded n words′ ≡ decodedOf 0 part words → asDecoded n words′ ≡ decodedOf i b words
+  unfolding decodedOf
   some-from n part words′ h f e = rw (f, words-drop b i h) at e
 
 pub ruleset froms = (none-from, some-from, rest)

@@ -20,6 +20,19 @@ wordsIn bytes = wordsFrom (length bytes / 4) bytes
 abbrev pub wordAt : List ℕ → ℕ → ℕ
 wordAt bytes i = getD (wordsIn bytes) i 0
 
+-- Words read into a slice, those from number i on: as many as it has room for stand first, and its others are as they were.
+pub record Decoded : Type 0 where
+  pub count : ℕ
+  pub words : List ℕ
+
+abbrev pub asDecoded : ℕ → List ℕ → Decoded
+asDecoded n words = record { count = n; words = words }
+
+unfoldable pub decodedOf : ℕ → List ℕ → List ℕ → Decoded
+decodedOf i bytes words =
+    let ws : List ℕ = take (length words) (drop i (wordsIn bytes)) in
+    record { count = length ws; words = ws ++ drop (length ws) words }
+
 -- the bytes of a word, and of words one after the other
 abbrev pub bytesIn : ℕ → List ℕ
 bytesIn w = w % 256 ∷ w / 256 % 256 ∷ w / 65536 % 256 ∷ w / 16777216 % 256 ∷ []

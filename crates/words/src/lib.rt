@@ -3,8 +3,7 @@ ghost use mathlib.Core.Path.{_≡_};
 ghost use Prim.Native.Nat.{_+_, _*_, _≤_};
 ghost use lib.ListN.{length};
 ghost use lib.Seq.{sets};
-ghost use Rattle.window.specs.Window.{asShown, windowOf};
-ghost use Rattle.words.specs.Words.{wordOf, wordsIn, wordAt, bytesIn, putWords, putWordsAt};
+ghost use Rattle.words.specs.Words.{wordOf, wordAt, asDecoded, decodedOf, bytesIn, putWords, putWordsAt};
 
 fn word_of(a: u8, b: u8, c: u8, d: u8) -> u32
     ensures { λ r. ⌜ r ≡ wordOf a b c d ⌝ }
@@ -25,7 +24,7 @@ pub fn get(bytes: &[u8], i: usize) -> u32
 
 // Puts the words of `bytes` at the start of `words`, as many as there is room for, and says how many.
 pub fn decode(bytes: &[u8], words: &mut [u32]) -> usize
-    ensures { λ r. ⌜ asShown r (now (words .exit)) ≡ windowOf 0 (wordsIn (now (bytes .entry))) (now (words .entry)) ⌝ }
+    ensures { λ r. ⌜ asDecoded r (now (words .exit)) ≡ decodedOf 0 (now (bytes .entry)) (now (words .entry)) ⌝ }
 {
     let mut n = 0;
     let mut rest = bytes;
@@ -42,7 +41,7 @@ pub fn decode(bytes: &[u8], words: &mut [u32]) -> usize
 
 // As `decode`, from word number i on.
 pub fn decode_from(bytes: &[u8], i: usize, words: &mut [u32]) -> usize
-    ensures { λ r. ⌜ asShown r (now (words .exit)) ≡ windowOf i (wordsIn (now (bytes .entry))) (now (words .entry)) ⌝ }
+    ensures { λ r. ⌜ asDecoded r (now (words .exit)) ≡ decodedOf i (now (bytes .entry)) (now (words .entry)) ⌝ }
 {
     if bytes.len() / 4 < i {
         return 0;

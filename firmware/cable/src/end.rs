@@ -19,7 +19,7 @@ pub struct End {
     /// What the calls that have ended said.
     pub answers: Vec<Answer>,
     /// The saved call, its count of accesses left at 0.
-    saved: [u8; 32],
+    saved: [u8; SavedCall::LENGTH],
     /// Writes of the last poll that are still to be made, by offset and value.
     writes: VecDeque<(u32, u32)>,
     /// What the running call said, its writes not all made yet.

@@ -2,33 +2,40 @@
 
 use core::fmt;
 
-/// Where a call stands, in 32 bytes that can be stored and handed back to
+/// How many words a saved call has: those that its `Debug` form names.
+const WORDS: usize = 8;
+
+/// Where a call stands, in bytes that can be stored and handed back to
 /// [`Running::resume`](crate::Running::resume). Any bytes may be tried: those that are no saved
 /// call of the described call are refused as 13.
 #[derive(Clone, Copy, PartialEq, Eq)]
-pub struct SavedCall(pub(crate) [u8; 32]);
+pub struct SavedCall(pub(crate) [u8; SavedCall::LENGTH]);
 
 impl SavedCall {
+    /// The length of a saved call in bytes.
+    pub const LENGTH: usize = 4 * WORDS;
+
     /// What a refused begin leaves; it is taken by no call.
-    pub const NONE: SavedCall = SavedCall([0; 32]);
+    pub const NONE: SavedCall = SavedCall([0; SavedCall::LENGTH]);
 
     /// The saved call of these bytes.
-    pub const fn from_bytes(bytes: [u8; 32]) -> Self {
+    pub const fn from_bytes(bytes: [u8; SavedCall::LENGTH]) -> Self {
         SavedCall(bytes)
     }
 
     /// Its bytes, as `include/huskerivory.h` lists them.
-    pub const fn to_bytes(self) -> [u8; 32] {
+    pub const fn to_bytes(self) -> [u8; SavedCall::LENGTH] {
         self.0
     }
 
     /// The register accesses that the call has made, held at 4,294,967,295.
     pub const fn accesses(&self) -> u32 {
-        self.words()[4]
+        let [_call, _piece, _byte, _word, accesses, ..] = self.words();
+        accesses
     }
 
-    const fn words(&self) -> [u32; 8] {
-        let mut words = [0; 8];
+    const fn words(&self) -> [u32; WORDS] {
+        let mut words = [0; WORDS];
         let (bytes, _) = self.0.as_chunks();
         let mut i = 0;
         while i < bytes.len() {

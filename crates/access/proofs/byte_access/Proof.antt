@@ -1,5 +1,5 @@
 -- `byte_access` meets its contract: each return by the test that led there. Assumes nothing.
-use Rattle.access.proofs.Branch.{branches}
+use Rattle.kinds.proofs.Branch.{branches}
 use borrow.Author.Needs.{needs}
 use Rattle.access.proofs.byte_access.Statement.{statement}
 use Rattle.access.proofs.byte_access.Tie as tie

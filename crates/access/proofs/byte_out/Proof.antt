@@ -1,7 +1,7 @@
 -- `byte_out` meets its contract: each return by the test that led there. Assumes nothing.
 use borrow.Author.Tests.{lt-ltb}
 use Rattle.fields.proofs.Tests.{tests}
-use Rattle.access.proofs.Branch.{yes, branches}
+use Rattle.kinds.proofs.Branch.{yes, branches}
 use borrow.Author.Needs.{needs}
 use Rattle.access.proofs.byte_out.Statement.{statement}
 use Rattle.access.proofs.byte_out.Tie as tie

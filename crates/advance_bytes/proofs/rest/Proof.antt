@@ -2,16 +2,17 @@
 use Rattle.advance_bytes.proofs.rest.Statement.{statement}
 use Rattle.advance_bytes.proofs.rest.Tie as tie
 use borrow.Author.Needs.{needs}
-use Prim.Native.Nat.{ℕ, _-_, _/_, _≤_}
+use Prim.Native.Nat.{_-_, _/_, _≤_}
 use native.Mathlib.Omega.{arith}
-use mathlib.Core.Path.{_≡_, refl, sym, ap, _∙_}
+use mathlib.Core.Path.{_≡_, refl, sym, _∙_}
 use mathlib.Core.Bool.{true}
 use lib.ListN.{length}
 use borrow.Author.Tests.{not-true, not-false}
-use Rattle.calls.specs.Joined.{isFull}
+use Rattle.calls.proofs.Reached.{some-left, none-left}
+use Rattle.calls.specs.Joined.{isFull, asReached, restFrom}
 use Rattle.words.specs.Words.{wordsIn}
-use Rattle.advance_bytes.specs.Pieces.{asCome, restFrom}
-use Rattle.advance_bytes.proofs.Pieces.{used-bytes, written-in, ends-here, goes-on, less, rest-is, none-left}
+use Rattle.advance_bytes.specs.Pieces.{inBytes}
+use Rattle.advance_bytes.proofs.Pieces.{turn-used, turn-written, turn-less, turn-ends, turn-goes}
 
 abbrev Inv-loop : tie.InvT-loop
 Inv-loop d ops buffer₀ answers log₀ window₀ entries₀ t₀ left₀ buffer log window entries t left =
@@ -23,7 +24,7 @@ Inv-loop d ops buffer₀ answers log₀ window₀ entries₀ t₀ left₀ buffer
     (length window ≡ 128) ×
     (length entries ≡ 256) ×
     (isFull (t .report) ≡ true) ×
-    (restFrom d ops (wordsIn answers) left (asCome t buffer log) ≡ restFrom d ops (wordsIn answers) left₀ (asCome t₀ buffer₀ log₀))
+    (restFrom inBytes d ops (wordsIn answers) left (asReached t buffer log) ≡ restFrom inBytes d ops (wordsIn answers) left₀ (asReached t₀ buffer₀ log₀))
 
 abbrev μ-loop : tie.MeasureT-loop
 μ-loop d ops buffer₀ answers log₀ window₀ entries₀ t₀ left₀ buffer log window entries t left = left
@@ -37,17 +38,57 @@ rest-spec =
     (λ c κs. search needs)
     (λ c κs. search needs)
     (λ c. search needs)
-    (λ c. (c .before .before .before .before .before .before .before .pre .0, c .before .before .before .before .before .before .before .pre .1, refl, refl, refl, c .before .before .large-window .ensures, c .before .large-log .ensures, c .before .before .before .before .before .before .before .pre .2, refl))
+    (λ c.
+    let start = c .before .before .before .before .before .before .before in
+    (start .pre .0, start .pre .1, refl, refl, refl, c .before .before .large-window .ensures, c .before .large-log .ensures, start .pre .2, refl))
     (λ c. search needs)
     (λ c. search needs)
-    (λ c κs. (c .before .before .before .before .before .before .loop .inv .0, c .before .before .before .before .before .before .loop .inv .1, omega (arith, c .before .before .before .before .before .before .loop .inv .5, c .before .before .before .before .before .before .loop .inv .6)))
+    (λ c κs. let i = c .before .before .before .before .before .loop in (i .inv .0, i .inv .1, omega (arith, i .inv .5, i .inv .6)))
     (λ c κs. search needs)
     (λ c. search needs)
     (λ c. search needs)
-    (λ c. ends-here (c .before .before .before .before .before .before .before .before .before .before .before .before .before .before .before .before .before .before .before .before .before .before .before .args .d) (c .before .before .before .before .before .before .before .before .before .before .before .before .before .before .before .before .before .before .before .before .before .before .before .args .ops .now) (wordsIn (c .before .before .before .before .before .before .before .before .before .before .before .before .before .before .before .before .before .before .before .before .before .before .before .args .answers .now)) (asCome (c .before .before .before .before .before .before .before .before .before .before .before .before .before .before .before .loop .t) (c .before .before .before .before .before .before .before .before .before .before .before .before .before .before .before .loop .buffer) (c .before .before .before .before .before .before .before .before .before .before .before .before .before .before .before .loop .log)) (asCome (c .before .before .before .before .before .before .before .before .piece .result) (c .before .before .before .before .before .before .before .before .piece .last .1 .1 .1 .1 .1 .0) (c .before .before .before .before .before .before .before .before .piece .last .1 .1 .1 .1 .1 .1 .1 .0)) _ (c .before .before .before .before .before .before .before .before .before .before .before .before .before .before .before .loop .left) (length (c .before .before .before .before .before .before .before .before .before .before .before .before .before .before .before .loop .entries) / 2) (omega (arith, c .before .before .before .before .before .before .before .before .before .before .before .before .before .before .before .loop .inv .6)) (c .before .before .before .before .before .before .before .before .piece .ensures) (c .before .before .before .before .before .before .before .before .before .before .before .before .before .before .before .loop .inv .2) (c .before .before .before .before .before .before .before .before .before .before .before .before .before .before .before .loop .inv .1) (rest-is (c .before .before .before .before .before .before .before .before .before .before .before .before .before .before .before .before .before .before .before .before .before .before .before .args .d) (c .before .before .before .before .before .before .before .before .before .before .before .before .before .before .before .before .before .before .before .before .before .before .before .args .ops .now) (wordsIn (c .before .before .before .before .before .before .before .before .before .before .before .before .before .before .before .before .before .before .before .before .before .before .before .args .answers .now)) (c .before .before .before .before .before .before .before .before .before .before .before .before .before .before .before .loop .left) (asCome (c .before .before .before .before .before .before .before .before .before .before .before .before .before .before .before .loop .t) (c .before .before .before .before .before .before .before .before .before .before .before .before .before .before .before .loop .buffer) (c .before .before .before .before .before .before .before .before .before .before .before .before .before .before .before .loop .log)) _ (c .before .before .before .before .before .before .before .before .before .before .before .before .before .before .loop-test .taken) (c .before .before .before .before .before .before .before .before .before .before .before .before .before .before .before .loop .inv .7) (c .before .before .before .before .before .before .before .before .before .before .before .before .before .before .before .loop .inv .8)) (sym (c .before .is-full .ensures) ∙ not-true (c .before .is-full .result) (c .if1 .taken)))
-    (λ c. written-in (c .before .before .before .before .before .before .before .before .before .before .before .before .before .before .before .before .before .before .before .before .before .before .before .before .args .d) (c .before .before .before .before .before .before .before .before .before .before .before .before .before .before .before .before .before .before .before .before .before .before .before .before .args .ops .now) (wordsIn (c .before .before .before .before .before .before .before .before .before .before .before .before .before .before .before .before .before .before .before .before .before .before .before .before .args .answers .now)) (asCome (c .before .before .before .before .before .before .before .before .before .before .before .before .before .before .before .before .loop .t) (c .before .before .before .before .before .before .before .before .before .before .before .before .before .before .before .before .loop .buffer) (c .before .before .before .before .before .before .before .before .before .before .before .before .before .before .before .before .loop .log)) (asCome (c .before .before .before .before .before .before .before .before .before .piece .result) (c .before .before .before .before .before .before .before .before .before .piece .last .1 .1 .1 .1 .1 .0) (c .before .before .before .before .before .before .before .before .before .piece .last .1 .1 .1 .1 .1 .1 .1 .0)) (asCome (c .before .before .before .before .before .before .before .before .before .before .before .before .before .before .before .before .loop .t) (c .before .before .before .before .before .before .before .before .before .before .before .before .before .before .before .before .loop .buffer) (c .before .before .before .before .before .before .before .before .before .before .before .before .before .before .before .before .loop .log)) (c .before .before .before .before .before .before .before .before .before .before .before .before .before .before .before .before .loop .left) (length (c .before .before .before .before .before .before .before .before .before .before .before .before .before .before .before .before .loop .entries) / 2) (omega (arith, c .before .before .before .before .before .before .before .before .before .before .before .before .before .before .before .before .loop .inv .6)) (c .before .before .before .before .before .before .before .before .before .piece .ensures) (c .before .before .before .before .before .before .before .before .before .before .before .before .before .before .before .before .loop .inv .2) (c .before .before .before .before .before .before .before .before .before .before .before .before .before .before .before .before .loop .inv .1) (c .before .before .before .before .before .before .before .before .before .piece .last .1 .1 .1 .1 .1 .1 .1 .0) (c .before .before .before .before .before .before .before .before .before .piece .kept .1 .1 .1 .1 .1 .1 .1 .0))
-    (λ c. rw (c .before .before .before .before .before .before .before .before .before .piece .kept .1 .1 .1 .1 .1 .1 .1 .0) (less (c .before .before .before .before .before .before .before .before .before .before .before .before .before .before .before .before .before .before .before .before .before .before .before .before .args .d) (c .before .before .before .before .before .before .before .before .before .before .before .before .before .before .before .before .before .before .before .before .before .before .before .before .args .ops .now) (wordsIn (c .before .before .before .before .before .before .before .before .before .before .before .before .before .before .before .before .before .before .before .before .before .before .before .before .args .answers .now)) (asCome (c .before .before .before .before .before .before .before .before .before .before .before .before .before .before .before .before .loop .t) (c .before .before .before .before .before .before .before .before .before .before .before .before .before .before .before .before .loop .buffer) (c .before .before .before .before .before .before .before .before .before .before .before .before .before .before .before .before .loop .log)) (asCome (c .before .before .before .before .before .before .before .before .before .piece .result) (c .before .before .before .before .before .before .before .before .before .piece .last .1 .1 .1 .1 .1 .0) (c .before .before .before .before .before .before .before .before .before .piece .last .1 .1 .1 .1 .1 .1 .1 .0)) (asCome (c .before .before .before .before .before .before .before .before .before .before .before .before .before .before .before .before .loop .t) (c .before .before .before .before .before .before .before .before .before .before .before .before .before .before .before .before .loop .buffer) (c .before .before .before .before .before .before .before .before .before .before .before .before .before .before .before .before .loop .log)) (c .before .before .before .before .before .before .before .before .before .before .before .before .before .before .before .before .loop .left) (length (c .before .before .before .before .before .before .before .before .before .before .before .before .before .before .before .before .loop .entries) / 2) (omega (arith, c .before .before .before .before .before .before .before .before .before .before .before .before .before .before .before .before .loop .inv .6)) (c .before .before .before .before .before .before .before .before .before .piece .ensures) (c .before .before .before .before .before .before .before .before .before .before .before .before .before .before .before .before .loop .inv .2) (c .before .before .before .before .before .before .before .before .before .before .before .before .before .before .before .before .loop .inv .1) (c .before .before .before .before .before .before .before .before .before .before .before .before .before .before .before .loop-test .taken) (sym (c .before .before .is-full .ensures) ∙ not-false (c .before .before .is-full .result) (c .before .if1 .left))))
-    (λ c. (used-bytes (c .before .before .before .before .before .before .before .before .before .before .before .before .before .before .before .before .before .before .before .before .before .before .before .before .args .d) (c .before .before .before .before .before .before .before .before .before .before .before .before .before .before .before .before .before .before .before .before .before .before .before .before .args .ops .now) (wordsIn (c .before .before .before .before .before .before .before .before .before .before .before .before .before .before .before .before .before .before .before .before .before .before .before .before .args .answers .now)) (asCome (c .before .before .before .before .before .before .before .before .before .before .before .before .before .before .before .before .loop .t) (c .before .before .before .before .before .before .before .before .before .before .before .before .before .before .before .before .loop .buffer) (c .before .before .before .before .before .before .before .before .before .before .before .before .before .before .before .before .loop .log)) (asCome (c .before .before .before .before .before .before .before .before .before .piece .result) (c .before .before .before .before .before .before .before .before .before .piece .last .1 .1 .1 .1 .1 .0) (c .before .before .before .before .before .before .before .before .before .piece .last .1 .1 .1 .1 .1 .1 .1 .0)) (asCome (c .before .before .before .before .before .before .before .before .before .before .before .before .before .before .before .before .loop .t) (c .before .before .before .before .before .before .before .before .before .before .before .before .before .before .before .before .loop .buffer) (c .before .before .before .before .before .before .before .before .before .before .before .before .before .before .before .before .loop .log)) (c .before .before .before .before .before .before .before .before .before .before .before .before .before .before .before .before .loop .left) (length (c .before .before .before .before .before .before .before .before .before .before .before .before .before .before .before .before .loop .entries) / 2) (omega (arith, c .before .before .before .before .before .before .before .before .before .before .before .before .before .before .before .before .loop .inv .6)) (c .before .before .before .before .before .before .before .before .before .piece .ensures) (c .before .before .before .before .before .before .before .before .before .before .before .before .before .before .before .before .loop .inv .2) (c .before .before .before .before .before .before .before .before .before .before .before .before .before .before .before .before .loop .inv .1) (c .before .before .before .before .before .before .before .before .before .before .before .before .before .before .before .before .before .before .before .before .before .before .before .before .args .answers .now) refl (c .before .before .before .before .before .before .before .before .before .before .before .before .before .before .before .before .loop .inv .0), written-in (c .before .before .before .before .before .before .before .before .before .before .before .before .before .before .before .before .before .before .before .before .before .before .before .before .args .d) (c .before .before .before .before .before .before .before .before .before .before .before .before .before .before .before .before .before .before .before .before .before .before .before .before .args .ops .now) (wordsIn (c .before .before .before .before .before .before .before .before .before .before .before .before .before .before .before .before .before .before .before .before .before .before .before .before .args .answers .now)) (asCome (c .before .before .before .before .before .before .before .before .before .before .before .before .before .before .before .before .loop .t) (c .before .before .before .before .before .before .before .before .before .before .before .before .before .before .before .before .loop .buffer) (c .before .before .before .before .before .before .before .before .before .before .before .before .before .before .before .before .loop .log)) (asCome (c .before .before .before .before .before .before .before .before .before .piece .result) (c .before .before .before .before .before .before .before .before .before .piece .last .1 .1 .1 .1 .1 .0) (c .before .before .before .before .before .before .before .before .before .piece .last .1 .1 .1 .1 .1 .1 .1 .0)) (asCome (c .before .before .before .before .before .before .before .before .before .before .before .before .before .before .before .before .loop .t) (c .before .before .before .before .before .before .before .before .before .before .before .before .before .before .before .before .loop .buffer) (c .before .before .before .before .before .before .before .before .before .before .before .before .before .before .before .before .loop .log)) (c .before .before .before .before .before .before .before .before .before .before .before .before .before .before .before .before .loop .left) (length (c .before .before .before .before .before .before .before .before .before .before .before .before .before .before .before .before .loop .entries) / 2) (omega (arith, c .before .before .before .before .before .before .before .before .before .before .before .before .before .before .before .before .loop .inv .6)) (c .before .before .before .before .before .before .before .before .before .piece .ensures) (c .before .before .before .before .before .before .before .before .before .before .before .before .before .before .before .before .loop .inv .2) (c .before .before .before .before .before .before .before .before .before .before .before .before .before .before .before .before .loop .inv .1) (c .before .before .before .before .before .before .before .before .before .piece .last .1 .1 .1 .1 .1 .1 .1 .0) (c .before .before .before .before .before .before .before .before .before .piece .kept .1 .1 .1 .1 .1 .1 .1 .0), refl, c .before .before .before .before .before .before .before .before .before .piece .kept .1 .1 .1 .1 .1 .0 ∙ c .before .before .before .before .before .before .before .before .before .before .before .before .before .before .before .before .loop .inv .3, (c .before .before .before .before .before .before .before .before .before .piece .kept .1 .1 .1 .1 .1 .1 .1 .0) ∙ c .before .before .before .before .before .before .before .before .before .before .before .before .before .before .before .before .loop .inv .4, c .before .before .before .before .before .before .before .before .before .piece .kept .1 .1 .1 .1 .1 .1 .1 .1 .0 ∙ c .before .before .before .before .before .before .before .before .before .before .before .before .before .before .before .before .loop .inv .5, c .before .before .before .before .before .before .before .before .before .piece .kept .1 .1 .1 .1 .1 .1 .1 .1 .1 .0 ∙ c .before .before .before .before .before .before .before .before .before .before .before .before .before .before .before .before .loop .inv .6, (sym (c .before .before .is-full .ensures) ∙ not-false (c .before .before .is-full .result) (c .before .if1 .left)), goes-on (c .before .before .before .before .before .before .before .before .before .before .before .before .before .before .before .before .before .before .before .before .before .before .before .before .args .d) (c .before .before .before .before .before .before .before .before .before .before .before .before .before .before .before .before .before .before .before .before .before .before .before .before .args .ops .now) (wordsIn (c .before .before .before .before .before .before .before .before .before .before .before .before .before .before .before .before .before .before .before .before .before .before .before .before .args .answers .now)) (asCome (c .before .before .before .before .before .before .before .before .before .before .before .before .before .before .before .before .loop .t) (c .before .before .before .before .before .before .before .before .before .before .before .before .before .before .before .before .loop .buffer) (c .before .before .before .before .before .before .before .before .before .before .before .before .before .before .before .before .loop .log)) (asCome (c .before .before .before .before .before .before .before .before .before .piece .result) (c .before .before .before .before .before .before .before .before .before .piece .last .1 .1 .1 .1 .1 .0) (c .before .before .before .before .before .before .before .before .before .piece .last .1 .1 .1 .1 .1 .1 .1 .0)) _ (c .before .before .before .before .before .before .before .before .before .before .before .before .before .before .before .before .loop .left) (length (c .before .before .before .before .before .before .before .before .before .before .before .before .before .before .before .before .loop .entries) / 2) (omega (arith, c .before .before .before .before .before .before .before .before .before .before .before .before .before .before .before .before .loop .inv .6)) (c .before .before .before .before .before .before .before .before .before .piece .ensures) (c .before .before .before .before .before .before .before .before .before .before .before .before .before .before .before .before .loop .inv .2) (c .before .before .before .before .before .before .before .before .before .before .before .before .before .before .before .before .loop .inv .1) (rest-is (c .before .before .before .before .before .before .before .before .before .before .before .before .before .before .before .before .before .before .before .before .before .before .before .before .args .d) (c .before .before .before .before .before .before .before .before .before .before .before .before .before .before .before .before .before .before .before .before .before .before .before .before .args .ops .now) (wordsIn (c .before .before .before .before .before .before .before .before .before .before .before .before .before .before .before .before .before .before .before .before .before .before .before .before .args .answers .now)) (c .before .before .before .before .before .before .before .before .before .before .before .before .before .before .before .before .loop .left) (asCome (c .before .before .before .before .before .before .before .before .before .before .before .before .before .before .before .before .loop .t) (c .before .before .before .before .before .before .before .before .before .before .before .before .before .before .before .before .loop .buffer) (c .before .before .before .before .before .before .before .before .before .before .before .before .before .before .before .before .loop .log)) _ (c .before .before .before .before .before .before .before .before .before .before .before .before .before .before .before .loop-test .taken) (c .before .before .before .before .before .before .before .before .before .before .before .before .before .before .before .before .loop .inv .7) (c .before .before .before .before .before .before .before .before .before .before .before .before .before .before .before .before .loop .inv .8)) (sym (c .before .before .is-full .ensures) ∙ not-false (c .before .before .is-full .result) (c .before .if1 .left)) _ (ap (λ (k : ℕ). k / 8 - c .before .before .before .before .before .before .before .before .before .piece .result .written) (c .before .before .before .before .before .before .before .before .before .piece .kept .1 .1 .1 .1 .1 .1 .1 .0))))
+    (λ c.
+    let p = c .before .before .before .before .before .before .before .before in
+    let i = p .before .before .before .before .before .before .loop in
+    let a = p .before .before .before .before .before .before .before .before .before .before .before .before .before .before .args in
+    turn-ends (a .d) (a .ops .now) (a .answers .now) (i .t) (i .buffer) (i .log) (p .piece .result) _ _ (length (i .entries) / 2) (i .left)
+    (p .piece .ensures) (i .inv .2) (p .piece .kept .1 .1 .1 .1 .1 .0) (i .inv .1) _
+    (some-left inBytes (a .d) (a .ops .now) (wordsIn (a .answers .now)) (asReached (i .t) (i .buffer) (i .log)) _ (i .left) (p .before .before .before .before .before .loop-test .taken) (i .inv .7) (i .inv .8))
+    (sym (c .before .is-full .ensures) ∙ not-true (c .before .is-full .result) (c .if1 .taken)))
+    (λ c.
+    let p = c .before .before .before .before .before .before .before .before .before in
+    let i = p .before .before .before .before .before .before .loop in
+    let a = p .before .before .before .before .before .before .before .before .before .before .before .before .before .before .args in
+    turn-written (a .d) (a .ops .now) (a .answers .now) (i .t) (i .buffer) (i .log) (p .piece .result) _ _ (length (i .entries) / 2) (i .left)
+    (p .piece .ensures) (i .inv .2) (p .piece .kept .1 .1 .1 .1 .1 .0) (i .inv .1))
+    (λ c.
+    let p = c .before .before .before .before .before .before .before .before .before in
+    let i = p .before .before .before .before .before .before .loop in
+    let a = p .before .before .before .before .before .before .before .before .before .before .before .before .before .before .args in
+    let full = sym (c .before .before .is-full .ensures) ∙ not-false (c .before .before .is-full .result) (c .before .if1 .left) in
+    turn-less (a .d) (a .ops .now) (a .answers .now) (i .t) (i .buffer) (i .log) (p .piece .result) _ _ (length (i .entries) / 2) (i .left)
+    (p .piece .ensures) (i .inv .2) (p .piece .kept .1 .1 .1 .1 .1 .0) (i .inv .1)
+    (omega (arith, i .inv .6)) (p .before .before .before .before .before .loop-test .taken) full)
+    (λ c.
+    let p = c .before .before .before .before .before .before .before .before .before in
+    let i = p .before .before .before .before .before .before .loop in
+    let a = p .before .before .before .before .before .before .before .before .before .before .before .before .before .before .args in
+    let full = sym (c .before .before .is-full .ensures) ∙ not-false (c .before .before .is-full .result) (c .before .if1 .left) in (
+      turn-used (a .d) (a .ops .now) (a .answers .now) (i .t) (i .buffer) (i .log) (p .piece .result) _ _ (length (i .entries) / 2) (i .left)
+          (p .piece .ensures) (i .inv .2) (p .piece .kept .1 .1 .1 .1 .1 .0) (i .inv .1) (i .inv .0),
+      turn-written (a .d) (a .ops .now) (a .answers .now) (i .t) (i .buffer) (i .log) (p .piece .result) _ _ (length (i .entries) / 2) (i .left)
+          (p .piece .ensures) (i .inv .2) (p .piece .kept .1 .1 .1 .1 .1 .0) (i .inv .1),
+      refl,
+      p .piece .kept .1 .1 .1 .0 ∙ i .inv .3,
+      p .piece .kept .1 .1 .1 .1 .1 .0 ∙ i .inv .4,
+      p .piece .kept .1 .1 .1 .1 .1 .1 .0 ∙ i .inv .5,
+      p .piece .kept .1 .1 .1 .1 .1 .1 .1 .0 ∙ i .inv .6,
+      full,
+      turn-goes (a .d) (a .ops .now) (a .answers .now) (i .t) (i .buffer) (i .log) (p .piece .result) _ _ (length (i .entries) / 2) (i .left)
+          (p .piece .ensures) (i .inv .2) (p .piece .kept .1 .1 .1 .1 .1 .0) (i .inv .1) _
+          (some-left inBytes (a .d) (a .ops .now) (wordsIn (a .answers .now)) (asReached (i .t) (i .buffer) (i .log)) _ (i .left) (p .before .before .before .before .before .loop-test .taken) (i .inv .7) (i .inv .8))
+          full,
+    ))
     (λ c. search needs)
     (λ c. search needs)
-    (λ c. none-left _ _ _ _ _ _ (c .loop-test .left) (c .before .loop .inv .8)))
+    (λ c. none-left _ _ _ _ _ _ _ (c .loop-test .left) (c .before .loop .inv .8)))

@@ -3,7 +3,7 @@ use borrow.Author.Needs.{needs}
 use mathlib.Core.Path.{ap, _∙_}
 use Rattle.window.proofs.Laid.{windowed}
 use Rattle.window.specs.Window.{laid, emitOf}
-use Rattle.window.specs.declared.Place.{Place}
+use Rattle.window.specs.declared.Cursor.{Cursor}
 use Rattle.bench.specs.Text.{fileText}
 use Rattle.bench.proofs.Whole.{every-whole}
 use Rattle.bench.proofs.text.Statement.{statement}
@@ -16,4 +16,4 @@ text-spec =
     (λ c κs. search needs)
     (λ c κs. search needs)
     (λ c. search needs)
-    (λ c. let a = c .before .before .before .before .before .before .before .args in (windowed (a .from) (fileText (a .file .now)) (a .out .now) _ (c .before .before .put-file .ensures ∙ ap (λ (p : Place). emitOf (fileText (a .file .now)) (laid p (a .out .now))) (c .before .before .before .before .new .ensures)), every-whole (a .file .now))))
+    (λ c. let a = c .before .before .before .before .before .before .before .args in (windowed (a .from) (fileText (a .file .now)) (a .out .now) _ (c .before .before .put-file .ensures ∙ ap (λ (p : Cursor). emitOf (fileText (a .file .now)) (laid p (a .out .now))) (c .before .before .before .before .new .ensures)), every-whole (a .file .now))))

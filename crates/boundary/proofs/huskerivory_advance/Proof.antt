@@ -5,7 +5,7 @@ use borrow.Author.Needs.{needs}
 use mathlib.Core.Path.{_∙_}
 use native.Mathlib.Omega.{arith}
 use Rattle.boundary.proofs.Answers.{listed}
-use Rattle.window.proofs.Laid.{room, counted}
+use Rattle.words.proofs.Turns.{decoded-room, decoded-count}
 use Rattle.words.proofs.Round.{all-below}
 
 pub huskerivory-advance-spec : {M : Type 1} → statement M
@@ -16,8 +16,8 @@ huskerivory-advance-spec =
     (λ c κs. search needs)
     (λ c. search needs)
     (λ c κs. search needs)
-    (λ c. room _ _ _ _ (c .before .decode .ensures))
-    (λ c. counted _ _ _ _ (c .before .before .decode .ensures))
+    (λ c. decoded-room _ _ _ _ _ (c .before .decode .ensures))
+    (λ c. decoded-count _ _ _ _ _ (c .before .before .decode .ensures))
     (λ c κs. search needs)
     (λ c. search needs)
     (λ c. search needs)

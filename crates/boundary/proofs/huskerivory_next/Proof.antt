@@ -3,7 +3,7 @@ use Rattle.boundary.proofs.huskerivory_next.Statement.{statement}
 use Rattle.boundary.proofs.huskerivory_next.Tie as tie
 use borrow.Author.Needs.{needs}
 use Rattle.boundary.proofs.Answers.{listed}
-use Rattle.window.proofs.Laid.{room, counted}
+use Rattle.words.proofs.Turns.{decoded-room, decoded-count}
 use mathlib.Core.Path.{_∙_}
 
 pub huskerivory-next-spec : {M : Type 1} → statement M
@@ -14,8 +14,8 @@ huskerivory-next-spec =
     (λ c κs. search needs)
     (λ c. search needs)
     (λ c κs. search needs)
-    (λ c. room _ _ _ _ (c .before .decode .ensures))
-    (λ c. counted _ _ _ _ (c .before .before .decode .ensures))
+    (λ c. decoded-room _ _ _ _ _ (c .before .decode .ensures))
+    (λ c. decoded-count _ _ _ _ _ (c .before .before .decode .ensures))
     (λ c κs. search needs)
     (λ c.
     let decoded = c .before .before .before in

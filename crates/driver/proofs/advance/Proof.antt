@@ -2,7 +2,7 @@
 use Prim.Native.Nat.{_/_}
 use mathlib.Core.Path.{sym, _∙_}
 use lib.ListN.{length}
-use Rattle.access.proofs.Branch.{via}
+use Rattle.kinds.proofs.Branch.{via}
 use Rattle.calls.specs.Run.{finalBy, runBy, runOf}
 use Rattle.calls.specs.declared.Verdict.{Verdict}
 use borrow.Author.Needs.{needs}

@@ -2,7 +2,7 @@
 use Prim.Native.Nat.{_/_}
 use native.Mathlib.Omega.{arith}
 use lib.ListN.{length}
-use Rattle.access.proofs.Branch.{told, un-not, holds, fails}
+use Rattle.kinds.proofs.Branch.{told, un-not, holds, fails}
 use Rattle.calls.proofs.Accepted.{known}
 use Rattle.calls.proofs.Fit.{accepted-fit}
 use Rattle.calls.specs.Calls.{Request}

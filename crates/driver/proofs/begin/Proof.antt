@@ -2,7 +2,7 @@
 use native.Mathlib.Omega.{arith}
 use mathlib.Core.Path.{sym, _∙_}
 use lib.ListN.{length}
-use Rattle.access.proofs.Branch.{via}
+use Rattle.kinds.proofs.Branch.{via}
 use Rattle.calls.proofs.Fit.{accepted-fit}
 use Rattle.calls.specs.Run.{begunBy, begunOf}
 use Rattle.calls.specs.declared.Verdict.{Verdict}

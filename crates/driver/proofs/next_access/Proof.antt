@@ -1,6 +1,6 @@
 -- `next_access` meets its contract. Assumes nothing.
 use mathlib.Core.Path.{sym, refl, _∙_}
-use Rattle.access.proofs.Branch.{via}
+use Rattle.kinds.proofs.Branch.{via}
 use Rattle.calls.specs.declared.Verdict.{Verdict}
 use Rattle.driver.specs.Next.{nextBy}
 use borrow.Author.Needs.{needs}

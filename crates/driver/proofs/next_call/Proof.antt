@@ -2,8 +2,8 @@
 use native.Mathlib.Omega.{arith}
 use mathlib.Core.Path.{_∙_, ap}
 use lib.ListN.{length}
-use Rattle.access.proofs.Branch.{told, un-not, holds, fails}
-use Rattle.access.specs.Next.{nextOf}
+use Rattle.kinds.proofs.Branch.{told, un-not, holds, fails}
+use Rattle.calls.specs.Next.{nextOf}
 use Rattle.calls.proofs.Accepted.{known}
 use Rattle.calls.proofs.Along.{no-access}
 use Rattle.calls.proofs.Fit.{accepted-fit}

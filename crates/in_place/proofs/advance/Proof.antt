@@ -51,7 +51,7 @@ use Rattle.calls.proofs.Description.Laws as D′
 use Rattle.calls.proofs.Report.Laws as O′
 use Rattle.calls.proofs.SavedCall as S
 use Rattle.calls.proofs.SavedCall.Laws as S′
-use Rattle.in_place.specs.InPlace.{inPlace, joined}
+use Rattle.in_place.specs.InPlace.{inPlace, asAdvanced}
 use Rattle.in_place.specs.declared.Progress.{Progress}
 use Rattle.in_place.proofs.Lent.{lends, comes-back}
 use Rattle.in_place.proofs.Values.{mD, mS, mR}
@@ -109,17 +109,17 @@ module _ {M : Type 1} (𝓤 : URA M) (H : Heap 𝓤) (A : Atoms 𝓤) (W : Given
   abbrev Ends : Progress → SavedCall → List ℕ → List ℕ → Type 0
   Ends p s zb zl = inPlace p s zb zl ≡ finalOf d (ops .now) h (buf .now) (ans .now) (log .now)
 
-  exits : (p : Progress) (s : SavedCall) (zb zl : List ℕ) → Is D.the-row d (mD d ∷ []) → Is S.the-row h (mS h ∷ []) → Is R.the-row (joined p s) (mR (joined p s) ∷ []) → Ends p s zb zl → length zb ≡ length (buf .now) → length zl ≡ length (log .now)
-      → ent 𝓤 (⋆ 𝓤 H A (‵ (flft κ₀ q₀) ∷ toks ∷ ‵ (finally u32 (log .name) zl) ∷ ‵ (finally u8 (buf .name) zb) ∷ [])) (Post (mR (joined p s)))
+  exits : (p : Progress) (s : SavedCall) (zb zl : List ℕ) → Is D.the-row d (mD d ∷ []) → Is S.the-row h (mS h ∷ []) → Is R.the-row (asAdvanced p s) (mR (asAdvanced p s) ∷ []) → Ends p s zb zl → length zb ≡ length (buf .now) → length zl ≡ length (log .now)
+      → ent 𝓤 (⋆ 𝓤 H A (‵ (flft κ₀ q₀) ∷ toks ∷ ‵ (finally u32 (log .name) zl) ∷ ‵ (finally u8 (buf .name) zb) ∷ [])) (Post (mR (asAdvanced p s)))
   exits p s zb zl is-d is-h is-r e lb ll =
       qed W (‵ (flft κ₀ q₀) ∷ toks ∷ ‵ (finally u32 (log .name) zl) ∷ ‵ (finally u8 (buf .name) zb) ∷ []) ∵
-      suffices ! _ (ends-at 𝓤 H A advance.ended stayed (advance.clauses 𝓤 H A at-mem run) W (((κ₀, (κ₁, (κ₂, (κ₃, tt)))), (q₀, (q₁, (q₂, (q₃, tt)))), tt, a, vals), tt) (mR (joined p s)) (joined p s) (tt, (tt, (tt, (zb, (tt, (zl, tt)))))) (tt, (tt, (tt, (lb, (tt, (ll, tt))))))) $ says ! e $
+      suffices ! _ (ends-at 𝓤 H A advance.ended stayed (advance.clauses 𝓤 H A at-mem run) W (((κ₀, (κ₁, (κ₂, (κ₃, tt)))), (q₀, (q₁, (q₂, (q₃, tt)))), tt, a, vals), tt) (mR (asAdvanced p s)) (asAdvanced p s) (tt, (tt, (tt, (zb, (tt, (zl, tt)))))) (tt, (tt, (tt, (lb, (tt, (ll, tt))))))) $ says ! e $
       join ! $ frame ! $
       -- [the last log; the last buffer]
       nothing ! $ move ! (1 ∷ 0 ∷ []) $ fjoin ! $ nothing ! $ fjoin ! $ move ! (1 ∷ 0 ∷ []) $ fjoin ! $
       owned ! S.the-row (Is S.the-row) (LL.makes S.the-type S′.the-plain 𝓤 H A) h _ is-h $ fjoin ! $ nothing ! $ fjoin ! $
       owned ! D.the-row (Is D.the-row) (LL.makes D.the-type D′.the-plain 𝓤 H A) d _ is-d $ fjoin ! $
-      owned ! R.the-row (Is R.the-row) (LL.makes R.the-type R′.the-plain 𝓤 H A) (joined p s) _ is-r $ move ! (1 ∷ 0 ∷ []) $ frame ! $ done !
+      owned ! R.the-row (Is R.the-row) (LL.makes R.the-type R′.the-plain 𝓤 H A) (asAdvanced p s) _ is-r $ move ! (1 ∷ 0 ∷ []) $ frame ! $ done !
 
   module _ (C : Calls 𝓤 H) (Λ : Loops 𝓤 H) (fm : FmC 𝓤 H (W .laws) C) (known : Triple 𝓤 (C #in-place) (InPlace 𝓤 H A at-mem run)) where
     walk : Is D.the-row d (mD d ∷ []) → Is S.the-row h (mS h ∷ []) → Room u32 (length (ops .now)) → Room u8 (length (buf .now)) → Room u32 (length (ans .now)) → Room u32 (length (log .now))
@@ -155,11 +155,11 @@ module _ {M : Type 1} (𝓤 : URA M) (H : Heap 𝓤) (A : Atoms 𝓤) (W : Given
         -- the lifetime is ended, and the local comes back
         move ! (1 ∷ []) $ split ! $ move ! (1 ∷ []) $ split ! $ lft-end ! tt $ move ! (0 ∷ 8 ∷ 7 ∷ []) $
         use3 W (later (given (Is S.the-row (zs .1 .1 .0) (mS (zs .1 .1 .0) ∷ [])) (‵ (fat fullShare S′.mir l₇ 0 (mS (zs .1 .1 .0)))))) (comes-back 𝓤 H A W S.the-type S′.the-laws (α ∷ []) γ (zs .1 .1 .0) l₇) $ await ! tt $ learn ! (λ is-s.
-        let is-r = LL.owes R.the-type R′.the-laws (joined p (zs .1 .1 .0)) (fields .0, (fields .1 .0, (is-s, (fields .1 .1 .0, tt)))) in
+        let is-r = LL.owes R.the-type R′.the-laws (asAdvanced p (zs .1 .1 .0)) (fields .0, (fields .1 .0, (is-s, (fields .1 .1 .0, tt)))) in
         -- [_7; the last three's tokens; ops's token; what the result owns; the last log; true; the last buffer; _14 at 7; …; _8 at 19; …; _6 at 22; …; _0 at 34]
         assigns ! (of-opd ! (load ! (from ! (stop !)) (look ! 0 refl))) (from ! (stop !)) (init ! 7 refl (LL.lawful S.the-type S′.the-laws 𝓤 H A W .typed (zs .1 .1 .0) _ is-s .0)) $
         -- what was said, field by field: of each its type and its place are written, as in the walk of `advance_in_place`
-        assigns ! (agg ! (and-then ! (load ! (from ! (fld ! {τ = tyInt w64} {d = 0} refl (stop !))) (look-in ! 19 {τ = tyInt w64} (sub ! 0 {τ = tyInt w64} {d = 0} refl (whole !)))) (and-then ! (load ! (from ! (fld ! {τ = tyInt w64} {d = 8} refl (stop !))) (look-in ! 19 {τ = tyInt w64} (sub ! 1 {τ = tyInt w64} {d = 8} refl (whole !)))) (and-then ! (load ! (from ! (stop !)) (look ! 7 refl)) (and-then ! (load ! (from ! (fld ! {τ = O′.mir} {d = 16} refl (stop !))) (look-in ! 19 {τ = O′.mir} (sub ! 2 {τ = O′.mir} {d = 16} refl (whole !)))) (no-more !)))))) (from ! (stop !)) (init ! 34 refl (LL.lawful R.the-type R′.the-laws 𝓤 H A W .typed (joined p (zs .1 .1 .0)) _ is-r .0)) $
+        assigns ! (agg ! (and-then ! (load ! (from ! (fld ! {τ = tyInt w64} {d = 0} refl (stop !))) (look-in ! 19 {τ = tyInt w64} (sub ! 0 {τ = tyInt w64} {d = 0} refl (whole !)))) (and-then ! (load ! (from ! (fld ! {τ = tyInt w64} {d = 8} refl (stop !))) (look-in ! 19 {τ = tyInt w64} (sub ! 1 {τ = tyInt w64} {d = 8} refl (whole !)))) (and-then ! (load ! (from ! (stop !)) (look ! 7 refl)) (and-then ! (load ! (from ! (fld ! {τ = O′.mir} {d = 16} refl (stop !))) (look-in ! 19 {τ = O′.mir} (sub ! 2 {τ = O′.mir} {d = 16} refl (whole !)))) (no-more !)))))) (from ! (stop !)) (init ! 34 refl (LL.lawful R.the-type R′.the-laws 𝓤 H A W .typed (asAdvanced p (zs .1 .1 .0)) _ is-r .0)) $
         returns ! (look ! 34 refl) $ forget ! 0 refl $ forget ! 7 refl $ forget ! 9 refl $ forget ! 11 refl $ forget ! 13 refl $ forget ! 15 refl $ forget ! 17 refl $ forget ! 19 refl $ forget ! 22 refl $ forget ! 24 refl $ forget ! 26 refl $ forget ! 28 refl $ forget ! 30 refl $ forget ! 32 refl $ forget ! 34 refl $
         move ! (34 ∷ 35 ∷ []) $ free1 ! $ move ! (32 ∷ 33 ∷ []) $ free1 ! $ move ! (30 ∷ 31 ∷ []) $ free1 ! $ move ! (28 ∷ 29 ∷ []) $ free1 ! $ move ! (26 ∷ 27 ∷ []) $ free1 ! $ move ! (24 ∷ 25 ∷ []) $ free1 ! $ move ! (22 ∷ 23 ∷ []) $ free1 ! $ move ! (0 ∷ 21 ∷ []) $ free1 ! $
         -- [the last three's tokens; ops's token; what the result owns; the last log; true; the last buffer; _14 at 6; …; _8 at 18]

@@ -18,4 +18,4 @@ put-call-spec =
     (λ c κs. search needs)
     (λ c κs. search needs)
     (λ c. search needs)
-    (λ c. rw (← c .before .before .before .before .before .before .before .before .before .before .before .before .before .before .before .before .report-value .ensures) (then _ _ _ _ _ (then _ _ _ _ _ (then _ _ _ _ _ (then _ _ _ _ _ (c .before .before .before .before .before .before .before .before .before .before .before .before .before .before .before .before .before .before .before .put-call-start .ensures) (c .before .before .before .before .before .before .before .before .before .before .before .before .before .before .put-number-field .ensures)) (c .before .before .before .before .before .before .before .before .before .before .put-number-field2 .ensures)) (c .before .before .before .before .before .before .put-number-field3 .ensures)) (c .before .before .put-newline .ensures))))
+    (λ c. rw (← c .before .before .before .before .before .before .before .before .before .before .before .before .before .before .before .before .value .ensures) (then _ _ _ _ _ (then _ _ _ _ _ (then _ _ _ _ _ (then _ _ _ _ _ (c .before .before .before .before .before .before .before .before .before .before .before .before .before .before .before .before .before .before .before .put-call-start .ensures) (c .before .before .before .before .before .before .before .before .before .before .before .before .before .before .put-number-field .ensures)) (c .before .before .before .before .before .before .before .before .before .before .put-number-field2 .ensures)) (c .before .before .before .before .before .before .put-number-field3 .ensures)) (c .before .before .put-newline .ensures))))

@@ -1,6 +1,6 @@
 -- `driver::check::buffer_verdict` meets its contract. Assumes nothing.
 use borrow.Author.Needs.{needs}
-use Rattle.access.proofs.Branch.{branches}
+use Rattle.kinds.proofs.Branch.{branches}
 use Rattle.refusals.proofs.buffer_verdict.Statement.{statement}
 use Rattle.refusals.proofs.buffer_verdict.Tie as tie
 

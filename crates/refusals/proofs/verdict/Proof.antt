@@ -1,7 +1,7 @@
 -- `verdict` meets its contract: each return by the rows that led there. Assumes nothing.
 use borrow.Author.Needs.{needs}
 use Rattle.calls.specs.Refusals.{verdictOf}
-use Rattle.access.proofs.Branch.{branches}
+use Rattle.kinds.proofs.Branch.{branches}
 use Rattle.refusals.proofs.verdict.Statement.{statement}
 use Rattle.refusals.proofs.verdict.Tie as tie
 

@@ -16,7 +16,7 @@ write-spec =
     (λ c κs. search needs)
     (λ c. search needs)
     (λ c.
-    let o = c .before .before .before .before .before .before .before .outcome-number .ensures in
+    let o = c .before .before .before .before .before .before .before .number .ensures in
     let v = c .before .before .before .before .before .before .value .ensures in
     let t = c .before .before .before .before .before .step-number .ensures in
     written-here _ (c .before .before .before .before .before .before .before .before .if1 .taken) _ _ _ (c .before .before .encode .ensures) (rw (o, v, t)))

@@ -1,5 +1,5 @@
 -- `address_event` meets its contract. Assumes nothing.
-use Rattle.access.proofs.Branch.{branches}
+use Rattle.kinds.proofs.Branch.{branches}
 use borrow.Author.Needs.{needs}
 use Rattle.steps.proofs.address_event.Statement.{statement}
 use Rattle.steps.proofs.address_event.Tie as tie

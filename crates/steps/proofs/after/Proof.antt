@@ -1,6 +1,6 @@
 -- `after` meets its contract: within the bounds nothing overflows. Assumes nothing.
 use mathlib.Core.Path.{refl}
-use Rattle.access.proofs.Branch.{told, holds, yes, no}
+use Rattle.kinds.proofs.Branch.{told, holds, yes, no}
 use Rattle.steps.proofs.Small.{small-says}
 use borrow.Author.Needs.{needs}
 use Rattle.steps.proofs.after.Statement.{statement}

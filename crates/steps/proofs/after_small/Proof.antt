@@ -15,4 +15,4 @@ after-small-spec =
     (λ c κs. let x = c .before .before .args in
     let h = small-noted (x .v) (x .s) (x .a) (x .s .step) (c .before .before .pre .1) (c .before .before .pre .0) in
     subst⁻¹ Small (c .before .note .ensures) h .piece)
-    (λ c. rw (c .apply .ensures, c .before .then .ensures, c .before .before .note .ensures)))
+    (λ c. rw (c .apply .ensures, c .before .effect .ensures, c .before .before .note .ensures)))

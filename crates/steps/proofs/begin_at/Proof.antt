@@ -9,4 +9,5 @@ begin-at-spec =
     (tie.spec
     (λ c κs. search needs)
     (λ c κs. search needs)
-    (λ c. rw (c .begin-step .ensures, c .before .number .ensures)))
+    (λ c κs. search needs)
+    (λ c. rw (c .fresh .ensures, c .before .begin-step .ensures, c .before .before .number .ensures)))

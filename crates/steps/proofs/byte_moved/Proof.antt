@@ -1,5 +1,5 @@
 -- `byte_moved` meets its contract. Assumes nothing.
-use Rattle.access.proofs.Branch.{branches}
+use Rattle.kinds.proofs.Branch.{branches}
 use borrow.Author.Needs.{needs}
 use Rattle.steps.proofs.byte_moved.Statement.{statement}
 use Rattle.steps.proofs.byte_moved.Tie as tie

@@ -1,5 +1,5 @@
 -- `entry_step` meets its contract. Assumes nothing.
-use Rattle.access.proofs.Branch.{branches}
+use Rattle.kinds.proofs.Branch.{branches}
 use borrow.Author.Needs.{needs}
 use Rattle.steps.proofs.entry_step.Statement.{statement}
 use Rattle.steps.proofs.entry_step.Tie as tie

@@ -1,7 +1,7 @@
 -- `event_in` meets its contract: what error_or ensures, and the branch under it. Assumes nothing.
 use mathlib.Core.Path.{_∙_, ap}
 use Rattle.calls.specs.Steps.{errorOr}
-use Rattle.access.proofs.Branch.{branches}
+use Rattle.kinds.proofs.Branch.{branches}
 use borrow.Author.Needs.{needs}
 use Rattle.steps.proofs.event_in.Statement.{statement}
 use Rattle.steps.proofs.event_in.Tie as tie

@@ -1,5 +1,5 @@
 -- `event_over` meets its contract. Assumes nothing.
-use Rattle.access.proofs.Branch.{branches}
+use Rattle.kinds.proofs.Branch.{branches}
 use borrow.Author.Needs.{needs}
 use Rattle.steps.proofs.event_over.Statement.{statement}
 use Rattle.steps.proofs.event_over.Tie as tie

@@ -1,5 +1,5 @@
 -- `fail` meets its contract. Assumes nothing.
-use Rattle.access.proofs.Branch.{branches}
+use Rattle.kinds.proofs.Branch.{branches}
 use borrow.Author.Needs.{needs}
 use Rattle.steps.proofs.fail.Statement.{statement}
 use Rattle.steps.proofs.fail.Tie as tie

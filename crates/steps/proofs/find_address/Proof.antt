@@ -1,5 +1,5 @@
 -- `find_address` meets its contract. Assumes nothing.
-use Rattle.access.proofs.Branch.{branches}
+use Rattle.kinds.proofs.Branch.{branches}
 use borrow.Author.Needs.{needs}
 use Rattle.steps.proofs.find_address.Statement.{statement}
 use Rattle.steps.proofs.find_address.Tie as tie

@@ -1,5 +1,5 @@
 -- `flag_awaited` meets its contract. Assumes nothing.
-use Rattle.access.proofs.Branch.{branches}
+use Rattle.kinds.proofs.Branch.{branches}
 use borrow.Author.Needs.{needs}
 use Rattle.steps.proofs.flag_awaited.Statement.{statement}
 use Rattle.steps.proofs.flag_awaited.Tie as tie

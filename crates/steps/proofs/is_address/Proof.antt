@@ -1,8 +1,6 @@
 -- `is_address` meets its contract. Assumes nothing.
-use mathlib.Core.List.{_++_}
-use Rattle.calls.specs.Bytes.{range}
 use Rattle.calls.specs.declared.Step.the-variants.{Address}
-use Rattle.steps.proofs.Unlike.{unlike}
+use Rattle.steps.proofs.Unlike.{others, unlike}
 use borrow.Author.Needs.{needs}
 use Rattle.steps.proofs.is_address.Statement.{statement}
 use Rattle.steps.proofs.is_address.Tie as tie
@@ -13,4 +11,4 @@ is-address-spec =
     (tie.spec
     (λ c. search needs)
     (λ c. rw (c .enum-told .given .1))
-    (λ c. unlike Address (c .before .args .t) (range 0 24 ++ range 25 3) tt (c .match .keys2)))
+    (λ c. unlike Address (c .before .args .t) (others Address) tt (c .match .keys2)))

@@ -1,7 +1,6 @@
 -- `is_ended` meets its contract. Assumes nothing.
-use Rattle.calls.specs.Bytes.{range}
 use Rattle.calls.specs.declared.Step.the-variants.{Ended}
-use Rattle.steps.proofs.Unlike.{unlike}
+use Rattle.steps.proofs.Unlike.{others, unlike}
 use borrow.Author.Needs.{needs}
 use Rattle.steps.proofs.is_ended.Statement.{statement}
 use Rattle.steps.proofs.is_ended.Tie as tie
@@ -12,4 +11,4 @@ is-ended-spec =
     (tie.spec
     (λ c. search needs)
     (λ c. rw (c .enum-told .given .1))
-    (λ c. unlike Ended (c .before .args .t) (range 1 27) tt (c .match .keys2)))
+    (λ c. unlike Ended (c .before .args .t) (others Ended) tt (c .match .keys2)))

@@ -1,5 +1,5 @@
 -- `is_resetting` meets its contract. Assumes nothing.
-use Rattle.access.proofs.Branch.{branches}
+use Rattle.kinds.proofs.Branch.{branches}
 use borrow.Author.Needs.{needs}
 use Rattle.steps.proofs.is_resetting.Statement.{statement}
 use Rattle.steps.proofs.is_resetting.Tie as tie

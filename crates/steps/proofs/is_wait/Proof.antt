@@ -1,8 +1,6 @@
 -- `is_wait` meets its contract. Assumes nothing.
-use mathlib.Core.List.{_++_}
-use Rattle.calls.specs.Bytes.{range}
 use Rattle.calls.specs.declared.Step.the-variants.{Wait}
-use Rattle.steps.proofs.Unlike.{unlike}
+use Rattle.steps.proofs.Unlike.{others, unlike}
 use borrow.Author.Needs.{needs}
 use Rattle.steps.proofs.is_wait.Statement.{statement}
 use Rattle.steps.proofs.is_wait.Tie as tie
@@ -13,4 +11,4 @@ is-wait-spec =
     (tie.spec
     (λ c. search needs)
     (λ c. rw (c .enum-told .given .1))
-    (λ c. unlike Wait (c .before .args .t) (range 0 4 ++ range 5 23) tt (c .match .keys2)))
+    (λ c. unlike Wait (c .before .args .t) (others Wait) tt (c .match .keys2)))

@@ -1,5 +1,5 @@
 -- `not_acknowledged` meets its contract. Assumes nothing.
-use Rattle.access.proofs.Branch.{branches}
+use Rattle.kinds.proofs.Branch.{branches}
 use borrow.Author.Needs.{needs}
 use Rattle.steps.proofs.not_acknowledged.Statement.{statement}
 use Rattle.steps.proofs.not_acknowledged.Tie as tie

@@ -1,5 +1,5 @@
 -- `note` meets its contract. Assumes nothing.
-use Rattle.access.proofs.Branch.{branches}
+use Rattle.kinds.proofs.Branch.{branches}
 use borrow.Author.Needs.{needs}
 use Rattle.steps.proofs.note.Statement.{statement}
 use Rattle.steps.proofs.note.Tie as tie

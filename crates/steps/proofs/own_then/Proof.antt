@@ -1,5 +1,5 @@
 -- `own_then` meets its contract. Assumes nothing.
-use Rattle.access.proofs.Branch.{branches}
+use Rattle.kinds.proofs.Branch.{branches}
 use borrow.Author.Needs.{needs}
 use Rattle.steps.proofs.own_then.Statement.{statement}
 use Rattle.steps.proofs.own_then.Tie as tie

@@ -1,5 +1,5 @@
 -- `readdress` meets its contract. Assumes nothing.
-use Rattle.access.proofs.Branch.{branches}
+use Rattle.kinds.proofs.Branch.{branches}
 use borrow.Author.Needs.{needs}
 use Rattle.steps.proofs.readdress.Statement.{statement}
 use Rattle.steps.proofs.readdress.Tie as tie

@@ -1,5 +1,5 @@
 -- `stop_or` meets its contract. Assumes nothing.
-use Rattle.access.proofs.Branch.{branches}
+use Rattle.kinds.proofs.Branch.{branches}
 use borrow.Author.Needs.{needs}
 use Rattle.steps.proofs.stop_or.Statement.{statement}
 use Rattle.steps.proofs.stop_or.Tie as tie

@@ -1,5 +1,5 @@
 -- `transfer_over` meets its contract. Assumes nothing.
-use Rattle.access.proofs.Branch.{branches}
+use Rattle.kinds.proofs.Branch.{branches}
 use borrow.Author.Needs.{needs}
 use Rattle.steps.proofs.transfer_over.Statement.{statement}
 use Rattle.steps.proofs.transfer_over.Tie as tie

@@ -1,5 +1,5 @@
 -- `wait_at` meets its contract, flag by flag. Assumes nothing.
-use Rattle.access.proofs.Branch.{branches}
+use Rattle.kinds.proofs.Branch.{branches}
 use borrow.Author.Needs.{needs}
 use Rattle.steps.proofs.wait_at.Statement.{statement}
 use Rattle.steps.proofs.wait_at.Tie as tie

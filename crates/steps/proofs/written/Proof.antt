@@ -1,6 +1,6 @@
 -- `written` meets its contract, modify by modify. Assumes nothing.
 use Rattle.fields.proofs.Tests.{tests}
-use Rattle.access.proofs.Branch.{branches}
+use Rattle.kinds.proofs.Branch.{branches}
 use borrow.Author.Needs.{needs}
 use Rattle.steps.proofs.written.Statement.{statement}
 use Rattle.steps.proofs.written.Tie as tie

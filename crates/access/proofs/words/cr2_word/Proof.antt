@@ -1,6 +1,6 @@
 -- `words::cr2_word` meets its contract: each return by the tests that led there. Assumes nothing.
 use Rattle.calls.specs.Words.{cr2Of}
-use Rattle.access.proofs.Branch.{branches}
+use Rattle.kinds.proofs.Branch.{branches}
 use borrow.Author.Needs.{needs}
 use Rattle.access.proofs.words.cr2_word.Statement.{statement}
 use Rattle.access.proofs.words.cr2_word.Tie as tie

@@ -1,5 +1,5 @@
 -- `words::enabled_word` meets its contract: the filter by the test that led there. Assumes nothing.
-use Rattle.access.proofs.Branch.{told}
+use Rattle.kinds.proofs.Branch.{told}
 use borrow.Author.Needs.{needs}
 use Rattle.access.proofs.words.enabled_word.Statement.{statement}
 use Rattle.access.proofs.words.enabled_word.Tie as tie

@@ -1,6 +1,6 @@
 -- `words::listen_register` meets its contract: each return by the tests that led there. Assumes nothing.
 use Rattle.fields.proofs.Tests.{tests}
-use Rattle.access.proofs.Branch.{branches}
+use Rattle.kinds.proofs.Branch.{branches}
 use Rattle.access.proofs.words.listen_register.Statement.{statement}
 use Rattle.access.proofs.words.listen_register.Tie as tie
 

@@ -1,6 +1,6 @@
 -- `words::listen_word` meets its contract: each return by the tests that led there. Assumes nothing.
 use Rattle.fields.proofs.Tests.{tests}
-use Rattle.access.proofs.Branch.{branches}
+use Rattle.kinds.proofs.Branch.{branches}
 use borrow.Author.Needs.{needs}
 use Rattle.access.proofs.words.listen_word.Statement.{statement}
 use Rattle.access.proofs.words.listen_word.Tie as tie

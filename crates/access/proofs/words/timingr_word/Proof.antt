@@ -1,6 +1,6 @@
 -- `words::timingr_word` meets its contract: each return by the tests that led there. Assumes nothing.
 use Rattle.calls.specs.Words.{timingrOf}
-use Rattle.access.proofs.Branch.{branches}
+use Rattle.kinds.proofs.Branch.{branches}
 use borrow.Author.Needs.{needs}
 use Rattle.access.proofs.words.timingr_word.Statement.{statement}
 use Rattle.access.proofs.words.timingr_word.Tie as tie

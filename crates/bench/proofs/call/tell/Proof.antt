@@ -14,4 +14,4 @@ tell-spec =
     (λ c. search needs)
     (λ c κs. search needs)
     (λ c. search needs)
-    (λ c. let a = c .before .before .before .before .before .before .before .before .before .before .args in let v = c .before .before .before .drive in told (v .result) (v .last .1 .1 .1 .0) (v .last .1 .1 .1 .1 .1 .0) (runFor (a .d) (a .ops .now) (a .buffer .now) (a .answers .now)) _ (v .ensures)))
+    (λ c. let a = c .before .before .before .before .before .before .before .before .before .before .before .args in let v = c .before .before .before .before .drive in told (v .result) (v .last .1 .1 .1 .0) (v .last .1 .1 .1 .1 .1 .0) (runFor (a .d) (a .ops .now) (a .buffer .now) (a .answers .now)) _ (v .ensures)))

@@ -3,7 +3,7 @@ use borrow.Author.Needs.{needs}
 use mathlib.Core.Path.{sym, ap, _∙_}
 use Prim.Native.Nat.{ℕ}
 use mathlib.Core.List.{List}
-use Rattle.window.proofs.Laid.{room, counted}
+use Rattle.words.proofs.Turns.{decoded-room, decoded-count}
 use Rattle.window.specs.Window.{laid, emitOf}
 use Rattle.bench.specs.Text.{wordsText, fileText}
 use Rattle.bench.proofs.Texts.{either, other}
@@ -23,8 +23,8 @@ put-file-spec =
     (λ c κs. search needs)
     (λ c. search needs)
     (λ c κs. search needs)
-    (λ c. search (needs, room))
-    (λ c. search (needs, counted))
+    (λ c. search (needs, decoded-room))
+    (λ c. search (needs, decoded-count))
     (λ c κs. search needs)
     (λ c. search needs)
     (λ c. let a = c .before .before .before .before .before .before .before .before .before .before .before .before .before .args in let d = c .before .before .before .before .before .before .decode in let w = c .before .before .before .before .before .before .before .before .room in let s = c .before .before .before .before .before .before .before .before .before .before .is-size-wrong in other _ _ _ _ _ _ (s .ensures) (c .before .before .before .before .before .before .before .before .before .if1 .left) (c .before .before .put-words .ensures ∙ ap (λ (x : List ℕ). emitOf (wordsText x) (laid (a .p) (a .out .now))) (all-words (a .file .now) (w .result) (d .result) (d .last .1 .0) (sym (s .ensures) ∙ c .before .before .before .before .before .before .before .before .before .if1 .left) (w .ensures) (d .ensures)))))

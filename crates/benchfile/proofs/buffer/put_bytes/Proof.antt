@@ -5,7 +5,7 @@ use mathlib.Core.Path.{_≡_}
 use lib.ListN.{length, drop}
 use borrow.Author.Needs.{needs}
 use Rattle.window.specs.Window.{laid, emitOf}
-use Rattle.benchfile.specs.Calls.{bytesIn}
+use Rattle.benchfile.specs.Calls.{lowBytes}
 use Rattle.benchfile.proofs.Bytes.{words-put}
 use Rattle.benchfile.proofs.buffer.put_bytes.Statement.{statement}
 use Rattle.benchfile.proofs.buffer.put_bytes.Tie as tie
@@ -13,7 +13,7 @@ use Rattle.benchfile.proofs.buffer.put_bytes.Tie as tie
 abbrev Inv-loop : tie.InvT-loop
 Inv-loop words out₀ q₀ i₀ i-end out q i =
     (i ≤ length words) × (length out ≡ length out₀)
-    × (emitOf (bytesIn (drop i words)) (laid q out) ≡ emitOf (bytesIn words) (laid q₀ out₀))
+    × (emitOf (lowBytes (drop i words)) (laid q out) ≡ emitOf (lowBytes words) (laid q₀ out₀))
 
 abbrev μ-loop : tie.MeasureT-loop
 μ-loop words out₀ q₀ i₀ i-end out q i = length words - i

@@ -5,7 +5,7 @@ use mathlib.Core.Path.{_≡_}
 use lib.ListN.{length, drop}
 use borrow.Author.Needs.{needs}
 use Rattle.window.specs.Window.{laid, emitOf}
-use Rattle.benchfile.specs.Calls.{bytesIn, bytesOf}
+use Rattle.benchfile.specs.Calls.{lowBytes, operationsBytes}
 use Rattle.benchfile.proofs.Bytes.{all-operations, next-operation}
 use Rattle.benchfile.proofs.buffer.put_operations.Statement.{statement}
 use Rattle.benchfile.proofs.buffer.put_operations.Tie as tie
@@ -13,7 +13,7 @@ use Rattle.benchfile.proofs.buffer.put_operations.Tie as tie
 abbrev Inv-loop : tie.InvT-loop
 Inv-loop ops bytes out₀ q₀ rest₀ i₀ i-end out q rest i =
     (i ≤ length ops) × (length out ≡ length out₀)
-    × (emitOf (bytesOf (drop i ops) (bytesIn rest)) (laid q out) ≡ emitOf (bytesOf ops (bytesIn bytes)) (laid q₀ out₀))
+    × (emitOf (operationsBytes (drop i ops) (lowBytes rest)) (laid q out) ≡ emitOf (operationsBytes ops (lowBytes bytes)) (laid q₀ out₀))
 
 abbrev μ-loop : tie.MeasureT-loop
 μ-loop ops bytes out₀ q₀ rest₀ i₀ i-end out q rest i = length ops - i

@@ -1,11 +1,11 @@
 -- `benchfile::head::describe` meets its contract. Assumes nothing.
 use borrow.Author.Needs.{needs}
-use Rattle.benchfile.specs.Calls.{descriptionOf}
+use Rattle.benchfile.specs.Calls.{headDescription}
 use Rattle.benchfile.proofs.head.describe.Statement.{statement}
 use Rattle.benchfile.proofs.head.describe.Tie as tie
 
 pub describe-spec : {M : Type 1} → statement M
-unfolding descriptionOf
+unfolding headDescription
 describe-spec =
     tie.close
     (tie.spec

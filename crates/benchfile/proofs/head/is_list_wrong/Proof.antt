@@ -1,11 +1,11 @@
 -- `benchfile::head::is_list_wrong` meets its contract. Assumes nothing.
 use borrow.Author.Needs.{needs}
-use Rattle.benchfile.specs.Calls.{listWrong}
+use Rattle.benchfile.specs.Calls.{listMisfit}
 use Rattle.benchfile.proofs.head.is_list_wrong.Statement.{statement}
 use Rattle.benchfile.proofs.head.is_list_wrong.Tie as tie
 
 pub is-list-wrong-spec : {M : Type 1} → statement M
-unfolding listWrong
+unfolding listMisfit
 is-list-wrong-spec =
     tie.close
     (tie.spec

@@ -17,4 +17,4 @@ access-answer-spec =
     (λ c. rw (c .enum-told .given .1))
     (λ c. rw (c .before .before .next .given .1, c .offset .ensures))
     (λ c. rw (c .before .before .next2 .given .1, c .offset2 .ensures))
-    (λ c. rw (c .before .before .next3 .given .1, c .refusal-number .ensures)))
+    (λ c. rw (c .before .before .next3 .given .1, c .number .ensures)))

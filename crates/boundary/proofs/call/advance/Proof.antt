@@ -2,10 +2,14 @@
 use Rattle.boundary.proofs.call.advance.Statement.{statement}
 use Rattle.boundary.proofs.call.advance.Tie as tie
 use borrow.Author.Needs.{needs}
+use Prim.Native.Nat.{_/_}
 use mathlib.Core.Path.{_≡_, ap, _∙_}
+use lib.ListN.{length}
 use Rattle.calls.specs.declared.SavedCall.{SavedCall}
 use Rattle.words.specs.Words.{wordsIn}
-use Rattle.advance_bytes.specs.Pieces.{comeIn}
+use Rattle.advance_bytes.specs.Pieces.{inBytes}
+use Rattle.calls.specs.Joined.{reachedBy}
+use Rattle.calls.specs.Run.{runOf}
 use Rattle.boundary.proofs.Answers.{advances}
 
 pub advance-spec : {M : Type 1} → statement M
@@ -21,4 +25,11 @@ advance-spec =
     (λ c. search needs)
     (λ c. search needs)
     (λ c. search needs)
-    (λ c. advances (c .before .before .before .before .before .before .before .before .before .before .before .before .before .before .before .before .before .before .before .before .before .before .args .d) (c .before .before .before .before .before .before .before .before .before .before .before .before .before .before .before .before .before .before .before .before .before .before .args .ops .now) (c .before .before .before .before .before .before .before .before .before .before .before .before .before .before .before .before .before .before .before .before .before .before .args .saved .now) (c .before .before .before .before .before .before .before .before .before .before .before .before .before .before .before .before .before .before .before .before .before .before .args .buffer .now) (c .before .before .before .before .before .before .before .before .before .before .before .before .before .before .before .before .before .before .before .before .before .before .args .answers .now) (c .before .before .before .before .before .before .before .before .before .before .before .before .before .before .before .before .before .before .before .before .before .before .args .log .now) (c .before .before .before .before .before .before .before .before .before .before .before .before .run .result) _ _ (c .before .before .before .before .before .before .before .before .before .before .before .before .run .ensures ∙ ap (λ (s : SavedCall). comeIn (c .before .before .before .before .before .before .before .before .before .before .before .before .before .before .before .before .before .before .before .before .before .before .args .d) (c .before .before .before .before .before .before .before .before .before .before .before .before .before .before .before .before .before .before .before .before .before .before .args .ops .now) s (c .before .before .before .before .before .before .before .before .before .before .before .before .before .before .before .before .before .before .before .before .before .before .args .buffer .now) (wordsIn (c .before .before .before .before .before .before .before .before .before .before .before .before .before .before .before .before .before .before .before .before .before .before .args .answers .now)) (c .before .before .before .before .before .before .before .before .before .before .before .before .before .before .before .before .before .before .before .before .before .before .args .log .now)) (c .before .before .before .before .before .before .before .before .before .before .before .before .before .before .before .read .ensures)) _ _ _ _ (c .before .before .report-number .ensures) (c .before .report-value .ensures) (c .awaited .ensures) (c .before .before .before .before .before .keep .ensures)))
+    (λ c.
+    let kept = c .before .before .before .before .before in
+    let ran = kept .before .before .before .before .before .before .before in
+    let read = ran .before .before .before in
+    let a = read .before .before .before .before .before .before .before .args in
+    advances (a .d) (a .ops .now) (a .saved .now) (a .buffer .now) (a .answers .now) (a .log .now) (ran .run .result) _ _
+    (ran .run .ensures ∙ ap (λ (s : SavedCall). reachedBy inBytes (runOf (a .d) (a .ops .now) (length (a .log .now) / 8) s (a .buffer .now) (wordsIn (a .answers .now))) (a .log .now)) (read .read .ensures))
+    _ _ _ _ (c .before .before .number .ensures) (c .before .value .ensures) (c .awaited .ensures) (kept .keep .ensures)))

@@ -1,6 +1,6 @@
 -- `call::configuration` meets its contract. Assumes nothing.
 use borrow.Author.Needs.{needs}
-use Rattle.access.proofs.Branch.{told, yes, no}
+use Rattle.kinds.proofs.Branch.{told, yes, no}
 use Rattle.boundary.proofs.call.configuration.Statement.{statement}
 use Rattle.boundary.proofs.call.configuration.Tie as tie
 

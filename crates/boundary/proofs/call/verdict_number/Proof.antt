@@ -12,4 +12,4 @@ verdict-number-spec =
     (λ c. search needs)
     (λ c κs. search needs)
     (λ c. rw (c .before .enum-told .given .1, c .place-number .ensures))
-    (λ c. rw (c .before .before .v .given .1, c .refusal-number .ensures)))
+    (λ c. rw (c .before .before .v .given .1, c .number .ensures)))

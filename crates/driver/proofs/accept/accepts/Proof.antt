@@ -2,7 +2,7 @@
 use mathlib.Core.Path.{refl}
 use borrow.Author.Tests.{not-true, not-false}
 use Rattle.driver.proofs.Accepts.{accepts-is}
-use Rattle.access.proofs.Branch.{told, or-no, and-yes, and-no, branches}
+use Rattle.kinds.proofs.Branch.{told, or-no, and-yes, and-no, branches}
 use borrow.Author.Needs.{needs}
 use Rattle.driver.proofs.accept.accepts.Statement.{statement}
 use Rattle.driver.proofs.accept.accepts.Tie as tie

@@ -9,4 +9,4 @@ has-blocks-spec =
     (tie.spec
     (λ c κs. search needs)
     (λ c κs. search needs)
-    (λ c. rw (c .before .is-manual .ensures, c .moves .ensures)))
+    (λ c. rw (c .before .is-manual .ensures, c .moves-bytes .ensures)))

@@ -9,4 +9,4 @@ has-move-spec =
     (tie.spec
     (λ c κs. search needs)
     (λ c κs. search needs)
-    (λ c. rw (c .before .is-transaction .ensures, c .moves .ensures)))
+    (λ c. rw (c .before .is-transaction .ensures, c .moves-bytes .ensures)))

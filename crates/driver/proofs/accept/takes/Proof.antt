@@ -1,11 +1,11 @@
 -- `accept::takes` meets its contract: each step by its group. Assumes nothing.
-use Rattle.calls.specs.Refusals.{hasIn}
+use Rattle.calls.specs.Refusals.{groupTaken}
 use borrow.Author.Needs.{needs}
 use Rattle.driver.proofs.accept.takes.Statement.{statement}
 use Rattle.driver.proofs.accept.takes.Tie as tie
 
 pub takes-spec : {M : Type 1} → statement M
-unfolding hasIn
+unfolding groupTaken
 takes-spec =
     tie.close
     (tie.spec

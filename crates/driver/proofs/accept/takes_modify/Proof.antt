@@ -1,11 +1,11 @@
 -- `accept::takes_modify` meets its contract: each step by its group. Assumes nothing.
-use Rattle.calls.specs.Refusals.{hasIn}
+use Rattle.calls.specs.Refusals.{groupTaken}
 use borrow.Author.Needs.{needs}
 use Rattle.driver.proofs.accept.takes_modify.Statement.{statement}
 use Rattle.driver.proofs.accept.takes_modify.Tie as tie
 
 pub takes-modify-spec : {M : Type 1} → statement M
-unfolding hasIn
+unfolding groupTaken
 takes-modify-spec =
     tie.close
     (tie.spec

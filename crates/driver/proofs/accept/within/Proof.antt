@@ -3,7 +3,7 @@ use Prim.Native.Nat.{max}
 use native.Mathlib.Omega.{arith}
 use mathlib.Core.Path.{refl}
 use borrow.Author.Tests.{le-ltb, lt-ltb}
-use Rattle.access.proofs.Branch.{and-yes, and-no}
+use Rattle.kinds.proofs.Branch.{and-yes, and-no}
 use Rattle.driver.proofs.Pieces.{inside, few-pieces}
 use borrow.Author.Needs.{needs}
 use Rattle.driver.proofs.accept.within.Statement.{statement}

@@ -1,5 +1,5 @@
 -- `quick::turn` meets its contract. Assumes nothing.
-use Rattle.access.proofs.Branch.{told}
+use Rattle.kinds.proofs.Branch.{told}
 use borrow.Author.Needs.{needs}
 use Rattle.driver.proofs.quick.turn.Statement.{statement}
 use Rattle.driver.proofs.quick.turn.Tie as tie

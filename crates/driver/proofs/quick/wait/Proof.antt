@@ -1,7 +1,7 @@
 -- `quick::wait` meets its contract: by what the status word says. Assumes nothing.
 use mathlib.Core.Path.{sym, _∙_}
 use borrow.Author.Tests.{lt-ltb}
-use Rattle.access.proofs.Branch.{told}
+use Rattle.kinds.proofs.Branch.{told}
 use Rattle.calls.specs.declared.Step.the-variants.{Wait, Byte}
 use Rattle.driver.proofs.Shortcuts.{idle, ready, waited}
 use borrow.Author.Needs.{needs}

@@ -2,7 +2,7 @@
 use native.Mathlib.Omega.{arith}
 use lib.ListN.{length}
 use borrow.Author.Tests.{ltb-true}
-use Rattle.access.proofs.Branch.{told, via}
+use Rattle.kinds.proofs.Branch.{told, via}
 use Rattle.driver.specs.Turn.{madeBy}
 use borrow.Author.Needs.{needs}
 use Rattle.driver.proofs.run.make.Statement.{statement}

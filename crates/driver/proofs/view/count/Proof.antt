@@ -1,7 +1,7 @@
 -- `view::count` meets its contract. Assumes nothing.
 use native.Mathlib.Omega.{arith}
 use Rattle.fields.proofs.Tests.{tests}
-use Rattle.access.proofs.Branch.{told, branches}
+use Rattle.kinds.proofs.Branch.{told, branches}
 use Rattle.driver.proofs.Pieces.{count-is, few-operations}
 use borrow.Author.Needs.{needs}
 use Rattle.driver.proofs.view.count.Statement.{statement}

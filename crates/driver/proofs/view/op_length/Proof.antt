@@ -9,4 +9,4 @@ op-length-spec =
     (tie.spec
     (λ c κs. search needs)
     (λ c κs. search needs)
-    (λ c. rw (← c .before .op-at .ensures) (c .get .ensures)))
+    (λ c. rw (← c .before .op-at .ensures) (c .length .ensures)))

@@ -9,4 +9,4 @@ op-reads-spec =
     (tie.spec
     (λ c κs. search needs)
     (λ c κs. search needs)
-    (λ c. rw (← c .before .op-at .ensures) (c .flag .ensures)))
+    (λ c. rw (← c .before .op-at .ensures) (c .is-read .ensures)))

@@ -1,5 +1,5 @@
 -- `view::reads_at` meets its contract. Assumes nothing.
-use Rattle.access.proofs.Branch.{told, no, branches}
+use Rattle.kinds.proofs.Branch.{told, no, branches}
 use borrow.Author.Needs.{needs}
 use Rattle.driver.proofs.view.reads_at.Statement.{statement}
 use Rattle.driver.proofs.view.reads_at.Tie as tie

@@ -1,7 +1,7 @@
 -- `view::reload_at` meets its contract. Assumes nothing.
 use borrow.Author.Tests.{ne-eqb}
 use Rattle.fields.proofs.Tests.{tests}
-use Rattle.access.proofs.Branch.{branches}
+use Rattle.kinds.proofs.Branch.{branches}
 use borrow.Author.Needs.{needs}
 use Rattle.driver.proofs.view.reload_at.Statement.{statement}
 use Rattle.driver.proofs.view.reload_at.Tie as tie

@@ -1,6 +1,6 @@
 -- `view::size_at` meets its contract. Assumes nothing.
 use Rattle.fields.proofs.Tests.{tests}
-use Rattle.access.proofs.Branch.{branches}
+use Rattle.kinds.proofs.Branch.{branches}
 use Rattle.driver.proofs.Pieces.{size-is}
 use borrow.Author.Needs.{needs}
 use Rattle.driver.proofs.view.size_at.Statement.{statement}

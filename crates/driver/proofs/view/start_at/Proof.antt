@@ -1,6 +1,6 @@
 -- `view::start_at` meets its contract. Assumes nothing.
 use Rattle.fields.proofs.Tests.{tests}
-use Rattle.access.proofs.Branch.{told, branches}
+use Rattle.kinds.proofs.Branch.{told, branches}
 use Rattle.driver.proofs.Pieces.{start-is, small-total}
 use borrow.Author.Needs.{needs}
 use Rattle.driver.proofs.view.start_at.Statement.{statement}
