@@ -9,9 +9,11 @@ use Rattle.words.specs.Words.{wordsIn, bytesOf}
 use Rattle.address_words.specs.Words.{modeOf, configIn}
 use Rattle.saved.specs.Saved.{savedLength, savedIn, writtenTo}
 use Rattle.calls.specs.Advances.{isRefusal}
+use Rattle.calls.specs.Calls.{callNumber}
 use Rattle.calls.specs.Outcomes.{refusalNumber, reportNumber, reportValue, awaitedOf}
 use Rattle.calls.specs.Run.{Entry, wordsOf, Run, begunOf, runOf}
 use Rattle.calls.specs.declared.Begun.{Begun}
+use Rattle.calls.specs.declared.Call.the-variants.{New, TargetNew, ConfigureTargetAddresses}
 use Rattle.calls.specs.declared.Configuration.{Configuration}
 use Rattle.calls.specs.declared.Configuration.the-variants.{Unconfigured, Configured}
 use Rattle.calls.specs.declared.Description.{Description}
@@ -30,7 +32,8 @@ yes n = not (eqb n 0)
 
 -- 1 has a configuration where it says so, 2 and 3 always.
 abbrev pub hasConfiguration : ℕ → ℕ → Bool
-hasConfiguration call configured = cond (eqb call 1) (yes configured) (eqb call 2 || eqb call 3)
+hasConfiguration n configured =
+    cond (eqb n (callNumber New)) (yes configured) (eqb n (callNumber TargetNew) || eqb n (callNumber ConfigureTargetAddresses))
 
 abbrev pub configurationOf : CallDescription → Configuration
 configurationOf a =
@@ -71,14 +74,14 @@ abbrev pub beginLeftIn : Description → List ℕ → ℕ → List ℕ → Begin
 beginLeftIn d ops n saved = beginLeftBy (begunOf d ops n) saved
 
 -- ---- The next access: 0 over, 1 a read, 2 a write, 3 refused; and the register's offset or the refusal's number.
-abbrev pub accessOf : ℕ → ℕ → AccessAnswer
-accessOf kind value = record { kind = kind; value = value }
+abbrev pub kindAndValue : ℕ → ℕ → AccessAnswer
+kindAndValue kind value = record { kind = kind; value = value }
 
 abbrev pub accessAnswer : Next → AccessAnswer
-accessAnswer Over = accessOf 0 0
-accessAnswer (Read r) = accessOf 1 (offsetOf r)
-accessAnswer (Write r) = accessOf 2 (offsetOf r)
-accessAnswer (Refused why) = accessOf 3 (refusalNumber why)
+accessAnswer Over = kindAndValue 0 0
+accessAnswer (Read r) = kindAndValue 1 (offsetOf r)
+accessAnswer (Write r) = kindAndValue 2 (offsetOf r)
+accessAnswer (Refused why) = kindAndValue 3 (refusalNumber why)
 
 abbrev pub accessIn : Description → List ℕ → List ℕ → List ℕ → AccessAnswer
 accessIn d ops saved b = accessAnswer (nextFor d ops (savedIn saved) b)

@@ -1,5 +1,5 @@
 -- The table of steps, read once: what holds of each way on, for every step and call. All else is proved from this, by
--- cases on `Then` and not on the steps. Assumes nothing.
+-- cases on `Effect` and not on the steps. Assumes nothing.
 use Prim.Native.Nat.{ℕ, zero, suc, _-_, _<_, max}
 use native.Mathlib.Omega.{arith}
 use mathlib.Core.Path.{_≡_, refl}
