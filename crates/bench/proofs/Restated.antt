@@ -3,8 +3,8 @@
 use Prim.Native.Nat.{ℕ, zero, suc, _+_, _-_, _*_, _≤_, _<_, min}
 use native.Mathlib.Omega.{arith}
 use mathlib.Core.Path.{_≡_, sym, ap, _∙_, subst}
-use mathlib.Core.Bool.{false, cond}
-use mathlib.Core.List.{List, [], _++_}
+use mathlib.Core.Bool.{false}
+use mathlib.Core.List.{List, _++_}
 use lib.ListN.{length, getD, take, drop, length-take, length-drop, length-append, List·getD-append}
 use lib.Seq.{getD-take, getD-drop, getD-append-add}
 use borrow.Fn.Kinds
@@ -25,7 +25,6 @@ use Rattle.calls.specs.declared.Call.{Call}
 use Rattle.calls.specs.declared.Description.{Description}
 use Rattle.calls.specs.declared.Refusal.{Refusal}
 use Rattle.calls.specs.declared.Report.the-variants.{Refused}
-use Rattle.calls.specs.declared.Step.the-variants.{Ended}
 use Rattle.calls.specs.declared.Verdict.{Verdict}
 use Rattle.calls.specs.declared.Verdict.the-variants.{Accepted, Refused as Rejected}
 use Rattle.drive.specs.Drive.{runFor}

@@ -1,15 +1,15 @@
 -- Each run that the bench prints is the whole uncut run: no file has answers enough to fill its log. Assumes nothing.
-use Prim.Native.Nat.{ℕ, zero, suc, _+_, _*_, _/_, _≤_}
+use Prim.Native.Nat.{ℕ, zero, suc, _*_, _≤_}
 use native.Mathlib.Omega.{arith}
-use mathlib.Core.Path.{_≡_, refl, ap, _∙_, subst}
+use mathlib.Core.Path.{_≡_, refl, _∙_, subst}
 use mathlib.Core.Bool.{Bool, true, false, _||_}
-use mathlib.Core.List.{List, []}
+use mathlib.Core.List.{List}
 use lib.Dec.{T}
 use lib.ListN.{length, getD, take, drop, length-take, length-drop}
 use lib.Seq.{take-all}
 use borrow.Author.Tests.{ltb-false}
 use Rattle.benchfile.specs.Calls.{plain, headDescription, operationsOf, lentBuffer}
-use Rattle.benchfile.specs.File.{bodySize, sizeWrong, wordsWrong, fileWrong}
+use Rattle.benchfile.specs.File.{bodySize, sizeWrong}
 use Rattle.words.proofs.Turns.{in-words, decoded-words}
 use Rattle.words.specs.Words.{wordsIn, asDecoded, decodedOf}
 use Rattle.calls.proofs.Ends.{whole-run}

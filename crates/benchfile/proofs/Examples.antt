@@ -5,8 +5,7 @@ use mathlib.Core.Bool.{true, false}
 use mathlib.Core.List.{List, [], _∷_, _++_, map}
 use lib.ListN.{replicate}
 use Rattle.fields.specs.Field.{getOf, bitsAt}
-use Rattle.benchfile.specs.Calls.{plain, hasArgument, argumentWrong, listMisfit, transactionWrong, configWrong, headWrong}
-use Rattle.benchfile.specs.Calls.{callWrong, operationsOf, wholeBuffer, lentBuffer}
+use Rattle.benchfile.specs.Calls.{plain, hasArgument, argumentWrong, listMisfit, transactionWrong, configWrong, headWrong, callWrong, operationsOf, wholeBuffer, lentBuffer}
 use Rattle.benchfile.specs.File.{rowWrong, rowsWrong, tableWrong, wordsWrong}
 use Rattle.words.specs.Words.{wordsIn}
 

@@ -2,7 +2,7 @@
 -- of its accesses. Assumes nothing.
 use Prim.Native.Nat.{ℕ, _+_, _≤_, _<_, max}
 use native.Mathlib.Omega.{arith}
-use mathlib.Core.Path.{subst⁻¹, _≡_, refl}
+use mathlib.Core.Path.{subst⁻¹, _≡_}
 use mathlib.Core.Bool.{not, _||_}
 use mathlib.Core.List.{List}
 use lib.Dec.{T, T-not, eqb, ltb, ltb→lt, lt→ltb, leb→le, le→leb, eqb-refl, nleb→lt}
@@ -10,18 +10,17 @@ use lib.ListN.{length}
 use Rattle.fields.proofs.Laws.{and-l, and-r}
 use Rattle.calls.specs.Calls.{Request, callNumber, isCall, transaction, receives, transmits}
 use Rattle.calls.specs.Pieces.{Piece, piecesFor, piecesOf, viewOf}
-use Rattle.calls.specs.Steps.{effectAt, applyOf, sameStep, noted, afterOf, startAt, beginAt, beginOf}
-use Rattle.calls.specs.Refusals.{hasPieces, takesGroup, groupTaken, takes, accepts}
+use Rattle.calls.specs.Steps.{applyOf, sameStep, noted, afterOf, startAt, beginAt, beginOf}
+use Rattle.calls.specs.Refusals.{hasPieces, groupTaken, takes, accepts}
 use Rattle.calls.specs.declared.SavedCall.{SavedCall}
 use Rattle.calls.specs.declared.Step.{Step}
 use Rattle.calls.specs.declared.Step.the-variants.{Ended, Byte, Address}
 use Rattle.calls.specs.declared.Effect.{Effect}
 use Rattle.calls.specs.declared.Effect.the-variants.{Goes, Loads, Notes, Next, Enters, Fails, Ends}
-use Rattle.calls.specs.declared.View.{View}
 use Rattle.calls.proofs.Logic.{only, only-not, only-if, if-only, and-in, or-0, or-1, or-else, by-test, both}
 pub use Rattle.calls.proofs.Every.{is-eq}
 use Rattle.calls.proofs.Fits.{Fits, plain, fits}
-use Rattle.calls.proofs.Views.{notedIn, thenIn, after-noted, thereIn, sizeIn}
+use Rattle.calls.proofs.Views.{noted-keeps, apply-keeps, notedIn, thenIn, after-noted, thereIn, sizeIn}
 
 -- what row 13 leaves of a saved call that has not ended
 pub record Known (q : Request) (s : SavedCall) : Type 0 where
@@ -59,12 +58,6 @@ notes-well q s a t k =
     by-test (Noted q) (sameStep t Byte) (λ _. search arith) (λ _.
     by-test (Noted q) (sameStep t Address) (λ _. search) (λ _. search))
 
-noted-call : (v : View) (s : SavedCall) (a : ℕ) (t : Step) → noted v s a t .call ≡ s .call
-noted-call v s a t = by-test P (sameStep t Byte) (λ _. refl) (λ _. by-test P (sameStep t Address) (λ _. refl) (λ _. refl))
-  where
-    P : SavedCall → Type 0
-    P x = x .call ≡ s .call
-
 no-byte : (q : Request) (s : SavedCall) (u : Step) → T (plain u) → only (sameStep u Byte) (T (thereIn q s))
 no-byte q s u p = search (only-not, and-l)
 
@@ -80,15 +73,6 @@ applied q s a t (Enters u) k f = search (no-byte, arith)
 applied q s a t (Fails o) k f = search tt
 applied q s a t (Ends o) k f = search tt
 
-apply-call : (s : SavedCall) (a : ℕ) (n : Effect) → applyOf s a n .call ≡ s .call
-apply-call s a (Goes u) = refl
-apply-call s a (Loads u) = refl
-apply-call s a (Notes o u) = refl
-apply-call s a (Next u) = refl
-apply-call s a (Enters u) = refl
-apply-call s a (Fails o) = refl
-apply-call s a (Ends o) = refl
-
 -- an access leaves what row 13 asks, of a call that it ends too
 pub known-after : (q : Request) (s : SavedCall) (a : ℕ) → T (not (sameStep (s .step) Ended)) → Known q s → Known q (afterOf q s a)
 known-after q s a n k =
@@ -98,7 +82,7 @@ known-after q s a n k =
     (applied q s′ a (s .step) (thenIn q s a) m (fits q s′ a (s .step) (m .piece) n (k .taken)))
 
 call-after : (q : Request) (s : SavedCall) (a : ℕ) → afterOf q s a .call ≡ s .call
-call-after q s a = rw (after-noted q s a, apply-call (notedIn q s a) a (thenIn q s a)) (noted-call (viewOf q s) s a (s .step))
+call-after q s a = rw (after-noted q s a, apply-keeps (notedIn q s a) a (thenIn q s a) .0) (noted-keeps (viewOf q s) s a (s .step) .1)
 
 pub accepted-after : (q : Request) (s : SavedCall) (a : ℕ) → T (accepts q s) → T (accepts q (afterOf q s a))
 unfolding afterOf

@@ -31,11 +31,11 @@ use Rattle.calls.specs.declared.Effect.{Effect}
 use Rattle.calls.specs.declared.Effect.the-variants.{Goes, Loads, Notes, Next, Enters, Fails, Ends}
 use Rattle.calls.proofs.Logic.{only, only-if, and-in, or-1, or-else, nor-0, by-test, both, same}
 use Rattle.calls.proofs.Every.{implied, is-eq, every-step}
-use Rattle.calls.proofs.Fits.{over, flushOk, inEvent, plain, Fits, stepOf, AllRead, all-read, move-some, fits}
+use Rattle.calls.proofs.Fits.{over, flushOk, inEvent, below, plain, Fits, AllRead, all-read, move-some, fits}
 use Rattle.calls.proofs.Accepted.{Known, known, notes-well, accepted-after, accepted-begin}
 use Rattle.calls.proofs.Along.{entryOf, storeOf, made, readLog, Keeps, along}
 use Rattle.calls.proofs.Places.{is-true, is-false, aheadFrom, storeAt, ahead-all, ahead-none, ahead-next, ahead-other, ahead-this, bytes-ahead}
-use Rattle.calls.proofs.Views.{notedIn, thenIn, after-noted, thereIn, lastIn, readsIn, sizeIn, placeIn}
+use Rattle.calls.proofs.Views.{stepOf, notedIn, thenIn, after-noted, thereIn, lastIn, readsIn, sizeIn, placeIn}
 
 pub only-use : (c : Bool) (X : Type 0) → T c → only c X → X
 only-use true X h x = x
@@ -279,7 +279,7 @@ module _ (q : Request) (s : SavedCall) (a : ℕ) (t : Step) (fresh : Fresh t s) 
   fresh-by : (n : Effect) → Fits q s t n → T (inEvent (stepOf n)) → (s .piece ≡ 0) × (s .byte ≡ 0)
   fresh-by n f e =
       let u : Step = stepOf n in
-      let h : T (not (inEvent u) || inEvent t) = and-r (flushOk u (sameStep t FlushTxis) (sameStep t NackClear)) _ (f .edge) in
+      let h : T (not (inEvent u) || inEvent t) = and-l (not (inEvent u) || inEvent t) (below t u) (and-r (flushOk u (sameStep t FlushTxis) (sameStep t NackClear)) _ (f .edge)) in
       fresh (only-use (inEvent u) (T (inEvent t)) e (only-if (inEvent u) (inEvent t) h))
 
   -- it ends as done only past the last byte of its last piece

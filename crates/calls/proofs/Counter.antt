@@ -1,42 +1,21 @@
 -- The saved call's access number is the number of accesses made, held at 4,294,967,295. Assumes nothing.
 use Prim.Native.Nat.{ℕ, zero, suc, _+_, _≤_, min}
 use native.Mathlib.Omega.{arith}
-use mathlib.Core.Path.{_≡_, refl, _∙_}
-use mathlib.Core.Bool.{Bool, true, false, cond}
+use mathlib.Core.Path.{_≡_}
 use mathlib.Core.List.{List, [], _∷_}
 use lib.ListN.{length, set}
 use Rattle.calls.specs.Calls.{Request}
 use Rattle.calls.specs.Pieces.{viewOf}
 use Rattle.calls.specs.Run.{byteOf, uncutTurn, uncutOf}
-use Rattle.calls.specs.Steps.{accessOf, afterOf, applyOf, beginOf, sameStep, oneMore, noted, effectAt}
+use Rattle.calls.specs.Steps.{accessOf, afterOf, beginOf, oneMore}
 use Rattle.calls.specs.declared.Access.{Access}
 use Rattle.calls.specs.declared.Access.the-variants.{Read, Take, Write, Nothing}
 use Rattle.calls.specs.declared.SavedCall.{SavedCall}
-use Rattle.calls.specs.declared.Step.the-variants.{Byte, Address}
-use Rattle.calls.specs.declared.Effect.{Effect}
-use Rattle.calls.specs.declared.Effect.the-variants.{Goes, Loads, Notes, Next, Enters, Fails, Ends}
-use Rattle.calls.specs.declared.View.{View}
-
-either : (c : Bool) (x y : SavedCall) (n : ℕ) → x .accesses ≡ n → y .accesses ≡ n → cond c x y .accesses ≡ n
-either true x y n e f = e
-either false x y n e f = f
-
-applied : (s : SavedCall) (a : ℕ) (n : Effect) → applyOf s a n .accesses ≡ oneMore (s .accesses)
-applied s a (Goes t) = refl
-applied s a (Loads t) = refl
-applied s a (Notes o t) = refl
-applied s a (Next t) = refl
-applied s a (Enters t) = refl
-applied s a (Fails o) = refl
-applied s a (Ends o) = refl
+use Rattle.calls.proofs.Views.{noted-keeps, apply-keeps, notedIn, thenIn, after-noted}
 
 after-counts : (q : Request) (s : SavedCall) (a : ℕ) → afterOf q s a .accesses ≡ oneMore (s .accesses)
-unfolding afterOf
 after-counts q s a =
-    let v : View = viewOf q s in
-    let s′ : SavedCall = noted v s a (s .step) in
-    let e : s′ .accesses ≡ s .accesses = either (sameStep (s .step) Byte) _ _ _ refl (either (sameStep (s .step) Address) _ _ _ refl refl) in
-    applied s′ a (effectAt (q .call) (q .words) v s′ a (s .step)) ∙ rw e
+    rw (after-noted q s a, apply-keeps (notedIn q s a) a (thenIn q s a) .1, noted-keeps (viewOf q s) s a (s .step) .2)
 
 abbrev most : ℕ
 most = 4294967295

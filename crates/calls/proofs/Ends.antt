@@ -3,156 +3,40 @@
 use Prim.Native.Nat.{ℕ, zero, suc, _+_, _-_, _*_, _≤_, _<_}
 use native.Mathlib.Omega.{arith}
 use mathlib.Core.Path.{_≡_, refl, _∙_}
-use mathlib.Core.Bool.{Bool, true, false, cond, not, _||_}
+use mathlib.Core.Bool.{Bool, true, false, not, _||_}
 use mathlib.Core.List.{List, [], _∷_, append-nil}
-use lib.Dec.{T, T-not, eqb, ltb, leb, leb→le, ltb→lt}
+use lib.Dec.{T, eqb, ltb, leb, leb→le, ltb→lt}
 use lib.ListN.{length, drop, set, take-append-drop}
 use lib.Seq.{drop-length}
 use Rattle.registers.specs.declared.Register.{Register}
 use Rattle.calls.specs.Next.{nextOf}
 use Rattle.calls.specs.declared.Next.the-variants as next
-use Rattle.calls.specs.Calls.{Request, manual}
+use Rattle.calls.specs.Calls.{Request}
 use Rattle.calls.specs.Joined.{isFull}
 use Rattle.calls.specs.Pieces.{viewOf}
-use Rattle.calls.specs.Refusals.{requestOf, checkOf}
+use Rattle.calls.specs.Refusals.{requestOf, checkOf, accepts}
 use Rattle.calls.specs.Run.{byteOf, here, uncutTurn, uncutOf, noCall, begunOf, Run, stops, turnOf, advanceFrom, runOf}
-use Rattle.calls.specs.Steps.{accessAt, accessOf, afterOf, applyOf, effectAt, beginOf, sameStep}
+use Rattle.calls.specs.Steps.{accessAt, accessOf, afterOf, sameStep, beginOf}
 use Rattle.calls.specs.Whole.{stopAt, Whole, WholeCall}
 use Rattle.calls.specs.declared.Access.{Access}
 use Rattle.calls.specs.declared.Access.the-variants.{Read, Take, Write, Nothing}
 use Rattle.calls.specs.declared.Call.{Call}
 use Rattle.calls.specs.declared.Description.{Description}
-use Rattle.calls.specs.declared.Modify.{Modify}
-use Rattle.calls.specs.declared.Modify.the-variants.{PeOff, PeOn, Listen, NackSet, ReloadOff, SbcOff, ReloadClear, SbcOn, ReloadOn, NbytesSet}
 use Rattle.calls.specs.declared.Refusal.{Refusal}
-use Rattle.calls.specs.declared.Report.the-variants.{Over, Full, Waiting, Refused}
+use Rattle.calls.specs.declared.Report.the-variants.{Full, Refused}
 use Rattle.calls.specs.declared.SavedCall.{SavedCall}
 use Rattle.calls.specs.declared.Step.{Step}
-use Rattle.calls.specs.declared.Step.the-variants.{Ended, Begin, StartStatus, StartControl, Wait, Byte, StopClear, BusClear, ArbitrationClear, NackClear, FlushTxis, FlushByte, FlushTxe, Flush, Timing, Own, Secondary, Enable, Delay1, Delay2, Disabled, Event, EventFlush, EventClear, Address, TransferClear, ModifyRead, ModifyWrite}
-use Rattle.calls.specs.declared.Effect.{Effect}
-use Rattle.calls.specs.declared.Effect.the-variants.{Goes, Loads, Notes, Next, Enters, Fails, Ends}
+use Rattle.calls.specs.declared.Step.the-variants.{Ended}
 use Rattle.calls.specs.declared.Verdict.{Verdict}
 use Rattle.calls.specs.declared.Verdict.the-variants.{Accepted, Refused as Rejected}
-use Rattle.calls.specs.declared.View.{View}
-use Rattle.calls.proofs.Accepted.{accepted-begin}
+use Rattle.calls.proofs.Accepted.{known, notes-well, accepted-after, accepted-begin}
 use Rattle.calls.proofs.Along.{no-access}
 use Rattle.calls.proofs.Cut.{RunCame, over′, full′, waiting′, part, ended-stays, runs}
 use Rattle.calls.proofs.Every.{every-step}
-use Rattle.calls.proofs.Fits.{stepOf}
+use Rattle.calls.proofs.Fits.{rank, lower, fits}
 use Rattle.calls.proofs.Joined.{Kind, run, refused, kind}
-use Rattle.calls.proofs.Logic.{by-test, or-else, implies, is-true, is-false}
-use Rattle.calls.proofs.Views.{notedIn, thenIn, after-noted}
-
--- ---- the writes that can follow one another from a step on, its own among them: none where it reads, and BYTE as where it
--- writes
-
-abbrev modifyRank : Modify → ℕ
-modifyRank PeOff = 5
-modifyRank PeOn = 1
-modifyRank Listen = 1
-modifyRank NackSet = 1
-modifyRank ReloadOff = 1
-modifyRank SbcOff = 1
-modifyRank ReloadClear = 3
-modifyRank SbcOn = 1
-modifyRank ReloadOn = 2
-modifyRank NbytesSet = 2
-
-abbrev rank : Step → ℕ
-rank Ended = 0
-rank Begin = 1
-rank StartStatus = 0
-rank StartControl = 0
-rank Wait = 0
-rank Byte = 2
-rank StopClear = 1
-rank BusClear = 1
-rank ArbitrationClear = 1
-rank NackClear = 1
-rank FlushTxis = 0
-rank FlushByte = 1
-rank FlushTxe = 0
-rank Flush = 1
-rank Timing = 4
-rank Own = 3
-rank Secondary = 2
-rank Enable = 1
-rank Delay1 = 0
-rank Delay2 = 0
-rank Disabled = 0
-rank Event = 0
-rank EventFlush = 3
-rank EventClear = 2
-rank Address = 0
-rank TransferClear = 1
-rank (ModifyRead m) = 0
-rank (ModifyWrite m) = modifyRank m
-
--- a step that reads leads anywhere, one that writes to a lower rank
-abbrev below : Step → Step → Bool
-below t u = eqb (rank t) 0 || ltb (rank u) (rank t)
-
-record Lower (t : Step) (n : Effect) : Type 0 where
-  lower : T (below t (stepOf n))
-
-module _ {t : Step} where
-  test : (b : Bool) {x y : Effect} → (T b → Lower t x) → (T (not b) → Lower t y) → Lower t (cond b x y)
-  test = by-test (Lower t)
-
-  goes-if : (b : Bool) {u w : Step} → Lower t (Goes u) → Lower t (Goes w) → Lower t (Goes (cond b u w))
-  goes-if b h g = by-test (λ u. Lower t (Goes u)) b (λ _. h) (λ _. g)
-
-  next-if : (b : Bool) {u w : Step} → Lower t (Next u) → Lower t (Next w) → Lower t (Next (cond b u w))
-  next-if b h g = by-test (λ u. Lower t (Next u)) b (λ _. h) (λ _. g)
-
-  enters-if : (b : Bool) {u w : Step} → Lower t (Enters u) → Lower t (Enters w) → Lower t (Enters (cond b u w))
-  enters-if b h g = by-test (λ u. Lower t (Enters u)) b (λ _. h) (λ _. g)
-
-  -- EVENT_CLEAR asks twice who acknowledges
-  not-both : (c : Call) (n : Effect) → T (manual c) → T (not (manual c)) → Lower t n
-  not-both c n h g = absurd (T-not (manual c) g h)
-
-ruleset table = (test, goes-if, next-if, enters-if, tt)
-
-module _ (c : Call) (d : Description) (v : View) (s : SavedCall) (a : ℕ) where
-  row : (t : Step) → Lower t (effectAt c d v s a t)
-  row Ended = search table depth 16
-  row Begin = search table depth 16
-  row StartStatus = search table depth 16
-  row StartControl = search table depth 16
-  row Wait = search table depth 16
-  row Byte = search table depth 16
-  row StopClear = search table depth 16
-  row BusClear = search table depth 16
-  row ArbitrationClear = search table depth 16
-  row NackClear = search table depth 16
-  row FlushTxis = search table depth 16
-  row FlushByte = search table depth 16
-  row FlushTxe = search table depth 16
-  row Flush = search table depth 16
-  row Timing = search table depth 16
-  row Own = search table depth 16
-  row Secondary = search table depth 16
-  row Enable = search table depth 16
-  row Delay1 = search table depth 16
-  row Delay2 = search table depth 16
-  row Disabled = search table depth 16
-  row Event = search table depth 16
-  row EventFlush = search table depth 16
-  row EventClear = search (table, not-both {t = EventClear} c) depth 16
-  row Address = search table depth 16
-  row TransferClear = search table depth 16
-  row (ModifyRead m) = search table depth 16
-  row (ModifyWrite PeOff) = search table depth 16
-  row (ModifyWrite PeOn) = search table depth 16
-  row (ModifyWrite Listen) = search table depth 16
-  row (ModifyWrite NackSet) = search table depth 16
-  row (ModifyWrite ReloadOff) = search table depth 16
-  row (ModifyWrite SbcOff) = search table depth 16
-  row (ModifyWrite ReloadClear) = search table depth 16
-  row (ModifyWrite SbcOn) = search table depth 16
-  row (ModifyWrite ReloadOn) = search table depth 16
-  row (ModifyWrite NbytesSet) = search table depth 16
+use Rattle.calls.proofs.Logic.{or-else, both, implies}
+use Rattle.calls.proofs.Views.{stepOf, apply-keeps, notedIn, thenIn, after-noted}
 
 -- ---- what is true of a rank, and of one access
 
@@ -165,15 +49,6 @@ isWrite (Take i) = false
 isWrite (Write r v) = true
 isWrite Nothing = false
 
-apply-step : (s : SavedCall) (a : ℕ) (n : Effect) → applyOf s a n .step ≡ stepOf n
-apply-step s a (Goes u) = refl
-apply-step s a (Loads u) = refl
-apply-step s a (Notes o u) = refl
-apply-step s a (Next u) = refl
-apply-step s a (Enters u) = refl
-apply-step s a (Fails o) = refl
-apply-step s a (Ends o) = refl
-
 -- a step that writes has a rank, and leads to one of lower rank
 write-ranked : (q : Request) (b : List ℕ) (s : SavedCall) → T (isWrite (accessOf q b s)) → T (not (eqb (rank (s .step)) 0))
 unfolding accessOf
@@ -185,33 +60,36 @@ write-ranked q b s h = implies (writes (s .step)) (ranked (s .step)) (every-step
     ranked : Step → Bool
     ranked t = not (eqb (rank t) 0)
 
-write-lower : (q : Request) (b : List ℕ) (s : SavedCall) (a : ℕ) → T (isWrite (accessOf q b s))
+write-lower : (q : Request) (b : List ℕ) (s : SavedCall) (a : ℕ) → T (accepts q s) → T (isWrite (accessOf q b s))
     → rank (afterOf q s a .step) < rank (s .step)
-write-lower q b s a h =
+write-lower q b s a g h =
     let s′ : SavedCall = notedIn q s a in
-    let r = row (q .call) (q .words) (viewOf q s′) s′ a (s .step) .lower in
-    rw (after-noted q s a, apply-step s′ a (thenIn q s a))
+    let n : T (not (sameStep (s .step) Ended)) = both (sameStep (s .step) Ended) (λ e. absurd (rw (no-access q b s e) at h)) (λ n. n) in
+    let k = known q s g n in
+    let f = fits q s′ a (s .step) (notes-well q s a (s .step) k .piece) n (k .taken) in
+    let r = lower (s .step) (stepOf (thenIn q s a)) (f .edge) in
+    rw (after-noted q s a, apply-keeps s′ a (thenIn q s a) .2)
     (ltb→lt _ _ (or-else (eqb (rank (s .step)) 0) _ r (write-ranked q b s h)))
 
 -- ---- a run
 
 module _ (q : Request) where
-  ends-turn : (n : ℕ) (s : SavedCall) (b l : List ℕ) (x : Access) → accessOf q b s ≡ x
-      → ((s : SavedCall) (b l : List ℕ) → rank (s .step) + 6 * length l < n → T (not (isFull (advanceFrom q n s b l .report))))
+  ends-turn : (n : ℕ) (s : SavedCall) (b l : List ℕ) (x : Access) → accessOf q b s ≡ x → T (accepts q s)
+      → ((s : SavedCall) (b l : List ℕ) → T (accepts q s) → rank (s .step) + 6 * length l < n → T (not (isFull (advanceFrom q n s b l .report))))
       → rank (s .step) + 6 * length l < suc n → T (not (isFull (turnOf (advanceFrom q n) q s b l x .report)))
-  ends-turn n s b l Nothing e ih h = tt
-  ends-turn n s b l (Write r v) e ih h = ih (afterOf q s 0) b l (omega (arith, write-lower q b s 0 (rw e tt)))
-  ends-turn n s b [] (Read r) e ih h = tt
-  ends-turn n s b (a ∷ l) (Read r) e ih h = ih (afterOf q s a) b l (omega (arith, most (afterOf q s a .step)))
-  ends-turn n s b [] (Take i) e ih h = tt
-  ends-turn n s b (a ∷ l) (Take i) e ih h =
-      ih (afterOf q s a) (set b i (byteOf a)) l (omega (arith, most (afterOf q s a .step)))
+  ends-turn n s b l Nothing e g ih h = tt
+  ends-turn n s b l (Write r v) e g ih h = ih (afterOf q s 0) b l (accepted-after q s 0 g) (omega (arith, write-lower q b s 0 g (rw e tt)))
+  ends-turn n s b [] (Read r) e g ih h = tt
+  ends-turn n s b (a ∷ l) (Read r) e g ih h = ih (afterOf q s a) b l (accepted-after q s a g) (omega (arith, most (afterOf q s a .step)))
+  ends-turn n s b [] (Take i) e g ih h = tt
+  ends-turn n s b (a ∷ l) (Take i) e g ih h =
+      ih (afterOf q s a) (set b i (byteOf a)) l (accepted-after q s a g) (omega (arith, most (afterOf q s a .step)))
 
-  ends : (n : ℕ) (s : SavedCall) (b l : List ℕ) → rank (s .step) + 6 * length l < n
+  ends : (n : ℕ) (s : SavedCall) (b l : List ℕ) → T (accepts q s) → rank (s .step) + 6 * length l < n
       → T (not (isFull (advanceFrom q n s b l .report)))
   unfolding advanceFrom
-  ends zero s b l h = absurd (omega arith)
-  ends (suc n) s b l h = ends-turn n s b l (accessOf q b s) refl (ends n) h
+  ends zero s b l g h = absurd (omega arith)
+  ends (suc n) s b l g h = ends-turn n s b l (accessOf q b s) refl g (ends n) h
 
 -- with any saved call and description
 never-full : (d : Description) (ops : List ℕ) (n : ℕ) (s : SavedCall) (b l : List ℕ) → 6 * (length l + 1) ≤ n
@@ -220,7 +98,7 @@ never-full d ops n s b l h = go (kind d ops s b)
   where
     go : Kind d ops s b → T (not (isFull (runOf d ops n s b l .report)))
     go (refused r f) = rw (f n l) tt
-    go (run c e g) = rw (runs c d ops n s b l e g) (ends (requestOf c d ops (length b)) n s b l (omega (arith, most (s .step))))
+    go (run c e g) = rw (runs c d ops n s b l e g) (ends (requestOf c d ops (length b)) n s b l g (omega (arith, most (s .step))))
 
 pub run-ends : (d : Description) (ops : List ℕ) (n : ℕ) (s : SavedCall) (b l : List ℕ) → 6 * (length l + 1) ≤ n
     → runOf d ops n s b l .report ≡ Full → ⊥
@@ -292,4 +170,4 @@ whole-run d ops n b l h = go (checkOf d ops (length b)) refl
         let q : Request = requestOf c d ops (length b) in
         let s : SavedCall = beginOf q in
         rw (begun-accepted c d ops (length b) e, runs c d ops n s b l e (accepted-begin q))
-        (whole q n s b l (part q n s b l .came) (ends q n s b l (omega (arith, most (s .step)))))
+        (whole q n s b l (part q n s b l .came) (ends q n s b l (accepted-begin q) (omega (arith, most (s .step)))))

@@ -15,6 +15,7 @@ use Rattle.calls.specs.declared.Call.{Call}
 use Rattle.calls.specs.declared.Call.the-variants.{New, TargetNew, ConfigureTargetAddresses, EnableTargetEvent, DisableTargetEvent, Reset, Transaction, WaitForEvent, Read, Write, WaitForTargetRead, WaitForTargetWrite, WaitForStop, AckTransfer, NackTransfer}
 use Rattle.calls.specs.declared.Lookup.{Lookup}
 use Rattle.calls.specs.declared.Lookup.the-variants.{Listed}
+use Rattle.calls.specs.declared.Modify.{Modify}
 use Rattle.calls.specs.declared.Modify.the-variants.{PeOff, PeOn, Listen, NackSet, ReloadOff, SbcOff, ReloadClear, SbcOn, ReloadOn, NbytesSet}
 use Rattle.calls.specs.declared.Step.{Step}
 use Rattle.calls.specs.declared.Step.the-variants.{Ended, Begin, StartStatus, StartControl, Wait, Byte, StopClear, BusClear, ArbitrationClear, NackClear, FlushTxis, FlushByte, FlushTxe, Flush, Timing, Own, Secondary, Enable, Delay1, Delay2, Disabled, Event, EventFlush, EventClear, Address, TransferClear, ModifyRead, ModifyWrite}
@@ -86,6 +87,18 @@ aside q g h =
 abbrev stepAt : ℕ → Step
 stepAt n = getD steps n Ended
 
+modify-back : (m : Modify) → (stepAt (stepNumber (ModifyRead m)) ≡ ModifyRead m) × (stepAt (stepNumber (ModifyWrite m)) ≡ ModifyWrite m)
+modify-back PeOff = (refl, refl)
+modify-back PeOn = (refl, refl)
+modify-back Listen = (refl, refl)
+modify-back NackSet = (refl, refl)
+modify-back ReloadOff = (refl, refl)
+modify-back SbcOff = (refl, refl)
+modify-back ReloadClear = (refl, refl)
+modify-back SbcOn = (refl, refl)
+modify-back ReloadOn = (refl, refl)
+modify-back NbytesSet = (refl, refl)
+
 back : (t : Step) → stepAt (stepNumber t) ≡ t
 back Ended = refl
 back Begin = refl
@@ -113,26 +126,8 @@ back EventFlush = refl
 back EventClear = refl
 back Address = refl
 back TransferClear = refl
-back (ModifyRead PeOff) = refl
-back (ModifyRead PeOn) = refl
-back (ModifyRead Listen) = refl
-back (ModifyRead NackSet) = refl
-back (ModifyRead ReloadOff) = refl
-back (ModifyRead SbcOff) = refl
-back (ModifyRead ReloadClear) = refl
-back (ModifyRead SbcOn) = refl
-back (ModifyRead ReloadOn) = refl
-back (ModifyRead NbytesSet) = refl
-back (ModifyWrite PeOff) = refl
-back (ModifyWrite PeOn) = refl
-back (ModifyWrite Listen) = refl
-back (ModifyWrite NackSet) = refl
-back (ModifyWrite ReloadOff) = refl
-back (ModifyWrite SbcOff) = refl
-back (ModifyWrite ReloadClear) = refl
-back (ModifyWrite SbcOn) = refl
-back (ModifyWrite ReloadOn) = refl
-back (ModifyWrite NbytesSet) = refl
+back (ModifyRead m) = modify-back m .0
+back (ModifyWrite m) = modify-back m .1
 
 pub is-eq : (t u : Step) → T (sameStep t u) → t ≡ u
 is-eq t u h = sym (back t) ∙ ap stepAt (eqb→eq (stepNumber t) (stepNumber u) h) ∙ back u

@@ -5,7 +5,7 @@ use native.Mathlib.Omega.{arith}
 use mathlib.Core.Path.{_≡_, refl}
 use mathlib.Core.Bool.{Bool, true, false, cond, not, _&&_, _||_, Bool·beq}
 use mathlib.Core.List.{List, [], _∷_}
-use lib.Dec.{T, T-not, ltb→lt}
+use lib.Dec.{T, T-not, eqb, ltb, ltb→lt}
 use lib.ListN.{length}
 use Rattle.fields.proofs.Laws.{and-l, and-r}
 use Rattle.calls.specs.Calls.{Request, isCall, isKind, transaction, manual, receives, transmits, eventful}
@@ -17,6 +17,7 @@ use Rattle.calls.specs.declared.Call.{Call}
 use Rattle.calls.specs.declared.Call.the-variants.{New, TargetNew, ConfigureTargetAddresses, Reset, Transaction}
 use Rattle.calls.specs.declared.Flag.{Flag}
 use Rattle.calls.specs.declared.Flag.the-variants.{Rxne, Txis, Tc, Tcr, Stopf, Never}
+use Rattle.calls.specs.declared.Modify.{Modify}
 use Rattle.calls.specs.declared.Modify.the-variants.{PeOff, PeOn, Listen, NackSet, ReloadOff, SbcOff, ReloadClear, SbcOn, ReloadOn, NbytesSet}
 use Rattle.calls.specs.declared.Outcome.{Outcome}
 use Rattle.calls.specs.declared.SavedCall.{SavedCall}
@@ -26,7 +27,7 @@ use Rattle.calls.specs.declared.Effect.{Effect}
 use Rattle.calls.specs.declared.Effect.the-variants.{Goes, Loads, Notes, Next, Enters, Fails, Ends}
 use Rattle.calls.proofs.Logic.{only, only-yes, only-not, not-and, not-and-1, and-in, or-0, or-1, or-else, nor-0, nor-1, by-test, both}
 use Rattle.calls.proofs.Every.{implied, asks, aside}
-use Rattle.calls.proofs.Views.{thereIn, lastIn, readsIn}
+use Rattle.calls.proofs.Views.{stepOf, thereIn, lastIn, readsIn}
 
 -- the transaction's last byte was moved, or an error is on its way
 abbrev pub over : Request → SavedCall → Bool
@@ -63,15 +64,6 @@ early manualEvents = true
 abbrev pub inEvent : Step → Bool
 inEvent t = early (groupOf t)
 
-abbrev pub stepOf : Effect → Step
-stepOf (Goes u) = u
-stepOf (Loads u) = u
-stepOf (Notes o u) = u
-stepOf (Next u) = u
-stepOf (Enters u) = u
-stepOf (Fails o) = Wait
-stepOf (Ends o) = Ended
-
 -- no BYTE, STOP_CLEAR or ENDED, which are entered for a reason
 abbrev pub plain : Step → Bool
 plain u = not (sameStep u Byte) && (not (sameStep u StopClear) && not (sameStep u Ended))
@@ -87,9 +79,60 @@ Why q s t (Enters u) = T (inEvent t) × T (plain u)
 Why q s t (Fails o) = T (not (isDone o))
 Why q s t (Ends o) = only (isDone o && transaction (q .call)) (T (sameStep t StopClear) × (o ≡ s .outcome))
 
--- a step after a step: the flush of a NACK stays in order, and none leads back into the event
+-- the writes that can follow one another from a step on, its own among them: none where it reads, and BYTE as where it
+-- writes
+abbrev modifyRank : Modify → ℕ
+modifyRank PeOff = 5
+modifyRank PeOn = 1
+modifyRank Listen = 1
+modifyRank NackSet = 1
+modifyRank ReloadOff = 1
+modifyRank SbcOff = 1
+modifyRank ReloadClear = 3
+modifyRank SbcOn = 1
+modifyRank ReloadOn = 2
+modifyRank NbytesSet = 2
+
+abbrev pub rank : Step → ℕ
+rank Ended = 0
+rank Begin = 1
+rank StartStatus = 0
+rank StartControl = 0
+rank Wait = 0
+rank Byte = 2
+rank StopClear = 1
+rank BusClear = 1
+rank ArbitrationClear = 1
+rank NackClear = 1
+rank FlushTxis = 0
+rank FlushByte = 1
+rank FlushTxe = 0
+rank Flush = 1
+rank Timing = 4
+rank Own = 3
+rank Secondary = 2
+rank Enable = 1
+rank Delay1 = 0
+rank Delay2 = 0
+rank Disabled = 0
+rank Event = 0
+rank EventFlush = 3
+rank EventClear = 2
+rank Address = 0
+rank TransferClear = 1
+rank (ModifyRead m) = 0
+rank (ModifyWrite m) = modifyRank m
+
+-- a step that reads leads anywhere, one that writes to a lower rank
+abbrev pub below : Step → Step → Bool
+below t u = eqb (rank t) 0 || ltb (rank u) (rank t)
+
+-- a step after a step: the flush of a NACK stays in order, none leads back into the event, and writes come to an end
 abbrev pub edgeOk : Step → Step → Bool
-edgeOk t u = flushOk u (sameStep t FlushTxis) (sameStep t NackClear) && (not (inEvent u) || inEvent t)
+edgeOk t u = flushOk u (sameStep t FlushTxis) (sameStep t NackClear) && ((not (inEvent u) || inEvent t) && below t u)
+
+pub lower : (t u : Step) → T (edgeOk t u) → T (below t u)
+lower t u e = and-r (not (inEvent u) || inEvent t) (below t u) (and-r (flushOk u (sameStep t FlushTxis) (sameStep t NackClear)) _ e)
 
 pub record Fits (q : Request) (s : SavedCall) (t : Step) (n : Effect) : Type 0 where
   pub taken : T (takes q (stepOf n))
@@ -232,6 +275,10 @@ module _ (q : Request) (s : SavedCall) (a : ℕ) where
   waits Stopf p w h = search table depth 16
   waits Never p w h = search (table, writes-nack) depth 16
 
+  -- EVENT_CLEAR asks twice who acknowledges
+  not-both : (t : Step) (n : Effect) → T (manual (q .call)) → T (not (manual (q .call))) → Fits q s t n
+  not-both t n h g = absurd (T-not (manual (q .call)) g h)
+
   -- by the last premise it is no transaction, where a transaction takes no step of the group
   row : (t : Step) → Inside q s → T (not (sameStep t Ended)) → T (takes q t) →
       T (takesGroup (asks q Transaction) (groupOf t) || not (transaction (q .call))) → Fits q s t (effectAt (q .call) (q .words) (viewOf q s) s a t)
@@ -241,7 +288,7 @@ module _ (q : Request) (s : SavedCall) (a : ℕ) where
   row StartStatus p h k o = search table depth 16
   row StartControl p h k o = search table depth 16
   row Wait p h k o = let w = waits (awaited (q .call) (viewOf q s) s) p k (flagged q s) in search table depth 16
-  row Byte p h k o = test (transaction (q .call) || thereIn q s) (λ _. search table) (λ n. search (table, move-target) depth 16)
+  row Byte p h k o = test (transaction (q .call) || thereIn q s) (λ _. search table) (λ n. search table depth 16)
   row StopClear p h k o = search table depth 16
   row BusClear p h k o = search (table, errors-move) depth 16
   row ArbitrationClear p h k o = search (table, errors-move) depth 16
@@ -259,7 +306,7 @@ module _ (q : Request) (s : SavedCall) (a : ℕ) where
   row Disabled p h k o = search table depth 16
   row Event p h k o = search table depth 16
   row EventFlush p h k o = search table depth 16
-  row EventClear p h k o = search table depth 16
+  row EventClear p h k o = search (table, not-both EventClear) depth 16
   row Address p h k o = search table depth 16
   row TransferClear p h k o = search table depth 16
   row (ModifyRead PeOff) p h k o = search table depth 16

@@ -1,6 +1,6 @@
 -- A worked list of advances: document 01's run of call 7, begun, cut in two places, with a refused advance that is lent another buffer and one
 -- that is given another description between the cuts. It shows what demand 3 speaks of, and that there is such a list. Assumes nothing.
-use Prim.Native.Nat.{ℕ, _/_}
+use Prim.Native.Nat.{ℕ}
 use mathlib.Core.Path.{_≡_, refl}
 use mathlib.Core.List.{List, [], _∷_}
 use Rattle.registers.specs.declared.Register.the-variants.{Isr}
@@ -21,7 +21,7 @@ use Rattle.calls.specs.declared.Report.{Report}
 use Rattle.calls.specs.declared.Report.the-variants.{Over, Full, Waiting, Refused}
 use Rattle.calls.specs.declared.SavedCall.{SavedCall}
 use Rattle.calls.specs.declared.Step.{Step}
-use Rattle.calls.specs.declared.Step.the-variants.{Begin, StartControl, Wait, Ended}
+use Rattle.calls.specs.declared.Step.the-variants.{StartControl, Wait, Ended}
 use Rattle.calls.proofs.Cases.{plain}
 
 abbrev pub d : Description

@@ -17,7 +17,6 @@ use Rattle.calls.specs.declared.Access.the-variants.{Read, Take, Write, 
 use Rattle.calls.specs.declared.Advanced.{Advanced}
 use Rattle.calls.specs.declared.Begun.{Begun}
 use Rattle.calls.specs.declared.Description.{Description}
-use Rattle.calls.specs.declared.Outcome.the-variants.{Done}
 use Rattle.calls.specs.declared.Refusal.the-variants.{SavedCall as BadSavedCall}
 use Rattle.calls.specs.declared.Report.{Report}
 use Rattle.calls.specs.declared.Report.the-variants.{Over, Full, Waiting, Refused}

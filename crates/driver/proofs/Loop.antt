@@ -11,7 +11,6 @@ use lib.Dec.{T, ltb}
 use lib.ListN.{length, getD, set, drop, drop-of-length-le}
 use lib.Seq.{sets, sets-eq, drop-cons}
 use borrow.Author.Tests.{ltb-true, ltb-false}
-use Rattle.registers.specs.declared.Register.{Register}
 use Rattle.registers.specs.declared.Register.the-variants.{Rxdr}
 use Rattle.calls.proofs.Accepted.{Known, known-after}
 use Rattle.calls.proofs.Along.{no-access}

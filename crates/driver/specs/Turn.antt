@@ -5,7 +5,6 @@ use mathlib.Core.Path.{_≡_}
 use mathlib.Core.List.{List}
 use lib.Dec.{ltb}
 use lib.ListN.{length, getD, set}
-use Rattle.registers.specs.Map.{offsetOf}
 use Rattle.registers.specs.declared.Register.the-variants.{Rxdr}
 use Rattle.calls.specs.Run.{Entry, readEntry, writeEntry, byteOf}
 use Rattle.calls.specs.Steps.{accessAt, savedAt, oneMore, afterIn}

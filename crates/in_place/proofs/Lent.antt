@@ -13,7 +13,7 @@ use base.Logic.{ent, ex, guard, sep}
 use base.Fml.{GName, Lft, fat, fdead, flent, fres, fsep}
 use prog.Wp.{Heap}
 use ghost.Atoms.{Atoms}
-use types.Kit.{Given, ‵, raw, later, some, _$_, _∵_, !, qed, move, use1, use3, rewrite, check, fsplit, fjoin, fpick, fpack, await, updating, now as at-once, done}
+use types.Kit.{Given, ‵, raw, later, _$_, _∵_, !, qed, move, use1, use3, rewrite, check, fsplit, fjoin, fpick, fpack, await, updating, now as at-once, done}
 use types.SemTy.{Body}
 use denote.Laws.{Is, shows}
 use denote.Lend.{LentRef, lends-ref, ref-back}

@@ -5,14 +5,13 @@ use native.Mathlib.Nat.{add-zero, zero-add}
 use native.Mathlib.Numerals.{add-one}
 use native.Mathlib.Omega.{arith}
 use mathlib.Core.Path.{_≡_, refl, sym, ap, _∙_, subst⁻¹}
-use mathlib.Core.Bool.{Bool, true, false, cond, _&&_}
+use mathlib.Core.Bool.{Bool, true, false, _&&_}
 use mathlib.Core.List.{List, [], _∷_, _++_}
-use lib.Dec.{T, eqb, leb, ltb}
+use lib.Dec.{T, eqb, leb}
 use lib.ListN.{length, getD, take, drop, set, replicate, length-append, length-set, length-take, length-drop, drop-of-length-le}
 use lib.Seq.{drop-cons, take-nil, sets, sets-eq, take-append-seam, length-take-le, drop-drop}
 use borrow.Author.Tests.{eqb-true, leb-true, le-leb, lt-ltb, le-ltb}
 use Rattle.window.specs.Window.{Laid, laid, startOf, full, putByte, emitOf, Shown, shownOf, windowOf, asShown}
-use Rattle.window.specs.declared.Cursor.{Cursor}
 
 -- one text after the other
 pub emit-append : (t u : List ℕ) (L : Laid) → emitOf (t ++ u) L ≡ emitOf u (emitOf t L)

@@ -5,7 +5,7 @@ use native.Mathlib.Numerals.{add-one}
 use native.Mathlib.Omega.{arith}
 use mathlib.Core.Path.{_≡_, refl, sym, ap, _∙_}
 use mathlib.Core.List.{List, [], _∷_, _++_, append-assoc, append-nil}
-use lib.ListN.{length, getD, take, drop, set, length-append, length-take, length-drop, drop-of-length-le, List·getD-eq-default}
+use lib.ListN.{length, getD, take, drop, set, length-append, length-drop, drop-of-length-le, List·getD-eq-default}
 use lib.Seq.{take-nil, take-all, take-suc, take-at, take-append-seam, set-split, drop-cons, drop-at, drop-append-add, drop-drop, getD-drop, sets, sets-eq, length-take-le}
 use borrow.Author.Tests.{le-leb, lt-leb}
 use Rattle.words.specs.Words.{wordOf, wordsFrom, wordsIn, wordAt, Decoded, asDecoded, decodedOf, bytesIn, bytesOf, putWords, putWordsAt}

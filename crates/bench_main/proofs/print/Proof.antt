@@ -1,5 +1,4 @@
 -- `bench_main::print` is safe and ends: the measure is the turns that are left. Assumes nothing.
-use borrow.Author.Needs.{needs}
 use native.Mathlib.Omega.{arith}
 use Rattle.bench_main.proofs.print.Statement.{statement}
 use Rattle.bench_main.proofs.print.Tie as tie

@@ -1,7 +1,6 @@
 -- `window::put_zeros` meets its contract. The invariant: the zeros that are left, put where the text stands, are the whole.
 -- Assumes nothing.
 use mathlib.Core.Path.{_≡_, refl}
-use native.Mathlib.Omega.{arith}
 use lib.ListN.{length, replicate}
 use borrow.Author.Needs.{needs}
 use Rattle.window.specs.Window.{laid, emitOf}

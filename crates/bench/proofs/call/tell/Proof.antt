@@ -1,7 +1,6 @@
 -- `call::tell` meets its contract. Assumes nothing.
 use borrow.Author.Needs.{needs}
 use Rattle.bench.proofs.Texts.{told}
-use Rattle.window.specs.Window.{laid}
 use Rattle.drive.specs.Drive.{runFor}
 use Rattle.bench.proofs.call.tell.Statement.{statement}
 use Rattle.bench.proofs.call.tell.Tie as tie
