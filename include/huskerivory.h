@@ -4,6 +4,7 @@
  * what the registers answered and a log; it goes on from the saved call, writes into the log which registers were read and
  * which are to be written, and says how far it came. The caller makes the accesses:
  *
+ *     huskerivory_abi(..)                                once: the library is the one that this header describes
  *     huskerivory_begin(..)                              0, or the number of a refusal
  *     offset of the first read, if the first access is one, by huskerivory_next(..)
  *     loop:
@@ -18,23 +19,52 @@
  * a numbered refusal. A refusal uses no answer and writes neither log, buffer nor saved call; only a refused begin
  * clears the saved call, so that nothing can be advanced by mistake.
  *
- * Pointers. A slice is a pointer and its length in bytes. The pointer is never null, not even where the length is 0. Pointers
- * without `const` are written through: such a slice may overlap no other slice of the same call. Slices that are only read
- * may overlap each other. Nothing is kept: after the return every slice is the caller's again.
+ * Pointers. A slice is a pointer and its length in bytes, which is 64 bits wide on every machine. No pointer is null, not
+ * even that of a slice of length 0; one to a struct or a number is aligned as C aligns these. Through pointers without `const` is
+ * written: what they point to may overlap nothing else that is lent to the same call. What is only read may overlap what is
+ * only read. Nothing is kept: after the return all of it is the caller's again.
  *
  * Words. Operations, answers, log entries and the saved call are 32-bit words in little-endian bytes, without alignment.
- * Bytes after the last whole word, or after the last whole log entry, are neither read nor written.
+ * Bytes after the last whole word, or after the last whole log entry, are neither read nor written. The numbers of a struct are
+ * the machine's own.
  *
- * The library is target/staticlib/libboundary.a, which `rt staticlib boundary` writes. It is built for x86-64. */
+ * The library is, for x86-64, target/staticlib/libboundary.a, which `rt staticlib boundary` writes; for the Cortex-M33,
+ * target/chip/libhuskerivory-thumbv8m.a, and the same name with -hard for callers that pass floating-point numbers in
+ * registers, which `chip/build` writes. This header is the same for all of them: only pointers and numbers of 32 and 64 bits
+ * cross. */
 #ifndef HUSKERIVORY_H
 #define HUSKERIVORY_H
 
-#include <stddef.h>
 #include <stdint.h>
 
 #ifdef __cplusplus
 extern "C" {
 #endif
+
+/* ---- Version and sizes */
+
+/* What this header was written for. */
+#define HUSKERIVORY_ABI 2
+
+#define HUSKERIVORY_DESCRIPTION 64 /* bytes of a description */
+#define HUSKERIVORY_SAVED_CALL 32  /* bytes of a saved call */
+#define HUSKERIVORY_ADVANCED 32    /* bytes of what an advance leaves besides its report */
+#define HUSKERIVORY_LOG_ENTRY 8    /* bytes of a log entry */
+#define HUSKERIVORY_OPERATIONS 64  /* operations of a transaction, at most */
+#define HUSKERIVORY_BUFFER 65535   /* bytes of a buffer, at most */
+#define HUSKERIVORY_REPORTS 13     /* reports: they are numbered from 0 on */
+#define HUSKERIVORY_STEPS 46       /* steps of a saved call, numbered so too */
+
+/* These eight in their order, as `huskerivory_abi` leaves them. */
+#define HUSKERIVORY_ABI_SIZES 8
+#define HUSKERIVORY_ABI_EXPECTED                                                                                     \
+    {                                                                                                                \
+        HUSKERIVORY_DESCRIPTION, HUSKERIVORY_SAVED_CALL, HUSKERIVORY_ADVANCED, HUSKERIVORY_LOG_ENTRY,                \
+            HUSKERIVORY_OPERATIONS, HUSKERIVORY_BUFFER, HUSKERIVORY_REPORTS, HUSKERIVORY_STEPS                       \
+    }
+
+/* The version of the library that is linked, and its sizes. Where they are not those of this header call nothing else. */
+uint32_t huskerivory_abi(uint32_t sizes[HUSKERIVORY_ABI_SIZES]);
 
 /* ---- Calls */
 
@@ -72,25 +102,26 @@ enum {
 /* What is asked. A call looks only at the fields that belong to it, whose numbers stand here; the others may hold anything.
  * The description, the operations and the buffer's length stay the same from begin to the call's end. */
 typedef struct {
-    uint32_t call;       /* the call's number */
-    uint32_t address;    /* 7: the target's address, unshifted: up to 127, or up to 1,023 with ten bits */
-    uint32_t ten;        /* 7: not 0 if the address has ten bits */
-    uint32_t listen;     /* 4, 5: which event, 0 .. 2 */
-    uint32_t timingr;    /* 1, 2: the TIMINGR word; bits 24 to 27 are ignored, and call 2 leaves SCLH and SCLL out */
-    uint32_t configured; /* 1: not 0 if there are own addresses (2 and 3 always have them) */
-    uint32_t own;        /* 1, 2, 3: the own address, unshifted */
-    uint32_t own_ten;    /* 1, 2, 3: not 0 if the own address has ten bits */
-    uint32_t secondary;  /* 1, 2, 3: a second own address, of seven bits, or HUSKERIVORY_NONE */
-    uint32_t mask;       /* 1, 2, 3: how many low bits of the second one are not compared, up to 6, or HUSKERIVORY_NONE */
+    uint32_t call;        /* the call's number */
+    uint32_t address;     /* 7: the target's address, unshifted: up to 127, or up to 1,023 with ten bits */
+    uint32_t ten;         /* 7: not 0 if the address has ten bits */
+    uint32_t listen;      /* 4, 5: which event, 0 .. 2 */
+    uint32_t timingr;     /* 1, 2: the TIMINGR word; bits 24 to 27 are ignored, and call 2 leaves SCLH and SCLL out */
+    uint32_t configured;  /* 1: not 0 if there are own addresses (2 and 3 always have them) */
+    uint32_t own;         /* 1, 2, 3: the own address, unshifted */
+    uint32_t own_ten;     /* 1, 2, 3: not 0 if the own address has ten bits */
+    uint32_t secondary;   /* 1, 2, 3: a second own address, of seven bits, or HUSKERIVORY_NONE */
+    uint32_t mask;        /* 1, 2, 3: how many low bits of the second one are not compared, up to 6, or HUSKERIVORY_NONE */
+    uint32_t reserved[6]; /* set these to 0: this version does not look at them; to a later one that does, 0 means as before */
 } huskerivory_description;
 
 /* An operation of a transaction is a word: its length (up to 255 bytes) and, if bytes are to come in, this bit. A
- * transaction has at most 64 operations. Their bytes stand in the buffer one operation after the other, so that the
+ * transaction has at most HUSKERIVORY_OPERATIONS of them. Their bytes stand in the buffer one operation after the other, so that the
  * lengths sum up to the buffer's. No other call looks at the operations. */
 #define HUSKERIVORY_OPERATION_READ UINT32_C(0x10000)
 
 /* The buffer holds a transaction's bytes, those put out and the places of those that come in; for 10 and 12 (26, 28) the bytes to
- * put out; for 9 and 11 (25, 27) the places to fill. It has at most 65,535 bytes, and at least one for 9 to 12. Only places of
+ * put out; for 9 and 11 (25, 27) the places to fill. It has at most HUSKERIVORY_BUFFER bytes, and at least one for 9 to 12. Only places of
  * bytes that come in are ever written. */
 
 /* ---- Refusals */
@@ -115,7 +146,7 @@ enum {
 
 /* ---- The saved call */
 
-/* A call between two advances: 32 bytes, eight words. They can be stored and handed back later, by another program too:
+/* A call between two advances: HUSKERIVORY_SAVED_CALL bytes, eight words. They can be stored and handed back later, by another program too:
  *
  *     bytes  0 ..  3   the call's number; 0 after a refused begin, which no advance takes
  *     bytes  4 ..  7   piece: which operation, or which block of a target's transfer, is running
@@ -129,17 +160,15 @@ enum {
  * Bytes that are none are refused as 13: another length, an outcome above 9, a value with an outcome that has none, a step above
  * 45; and so is what this call never comes to: another call's number or, before the end, a step that it never takes, a piece
  * that is not there, or a byte number outside the piece. */
-#define HUSKERIVORY_SAVED_CALL 32
 
 /* ---- Begin */
 
 /* Begins a call: 0 and the saved call, or the number of a refusal and a saved call of zero bytes. Where `saved_len` is not
- * HUSKERIVORY_SAVED_CALL it writes nothing and refuses, as 13 if nothing else is wrong. The buffer's bytes are not looked at.
- * `saved` is written and may overlap neither of the other two slices. */
-uint32_t huskerivory_begin(huskerivory_description description,
-                           const uint8_t *operations, size_t operations_len,
-                           const uint8_t *buffer, size_t buffer_len,
-                           uint8_t *saved, size_t saved_len);
+ * HUSKERIVORY_SAVED_CALL it writes nothing and refuses, as 13 if nothing else is wrong. The buffer's bytes are not looked at. */
+uint32_t huskerivory_begin(const huskerivory_description *description,
+                           const uint8_t *operations, uint64_t operations_len,
+                           const uint8_t *buffer, uint64_t buffer_len,
+                           uint8_t *saved, uint64_t saved_len);
 
 /* ---- Next */
 
@@ -151,16 +180,12 @@ enum {
     HUSKERIVORY_ACCESS_REFUSED = 3 /* none, an advance would be refused */
 };
 
-typedef struct {
-    uint32_t kind;  /* one of these four */
-    uint32_t value; /* the register's offset, or the number of the refusal, else 0 */
-} huskerivory_access;
-
-/* Nothing is written. */
-huskerivory_access huskerivory_next(huskerivory_description description,
-                                    const uint8_t *operations, size_t operations_len,
-                                    const uint8_t *saved, size_t saved_len,
-                                    const uint8_t *buffer, size_t buffer_len);
+/* One of these four; `value` is left with the register's offset, or the number of the refusal, else 0. Nothing else is written. */
+uint32_t huskerivory_next(const huskerivory_description *description,
+                          const uint8_t *operations, uint64_t operations_len,
+                          const uint8_t *saved, uint64_t saved_len,
+                          const uint8_t *buffer, uint64_t buffer_len,
+                          uint32_t *value);
 
 /* ---- Advance */
 
@@ -181,16 +206,15 @@ enum {
     HUSKERIVORY_REPORT_FULL = 12           /* the log has no place for the next access */
 };
 
+/* What an advance leaves besides its report. Each number has 64 bits on every machine. */
 typedef struct {
-    uint32_t report;  /* one of these thirteen */
-    uint32_t value;   /* a count, an address or the number of a refusal, else 0 */
-    uint32_t awaited; /* waiting: the offset of the register whose word the next advance takes first; else 0 */
-    size_t used;      /* answers used, in words */
-    size_t written;   /* log entries written */
+    uint64_t value;   /* a count, an address or the number of a refusal, else 0 */
+    uint64_t awaited; /* waiting: the offset of the register whose word the next advance takes first; else 0 */
+    uint64_t used;    /* answers used, in words */
+    uint64_t written; /* log entries written */
 } huskerivory_advanced;
 
 /* A log entry is two words: the register's offset, plus this bit for a write, and the value read or to be written. */
-#define HUSKERIVORY_LOG_ENTRY 8
 #define HUSKERIVORY_LOG_WRITE UINT32_C(0x100)
 
 /* Goes on from the saved call, which it updates, until the call has ended, the log has no place for the next access (`full`,
@@ -198,34 +222,47 @@ typedef struct {
  * answer too. However a call is cut into advances, it makes the same accesses. Entries after the last one written stay as they
  * were.
  *
- * `saved`, `buffer` and `log` are written: none may overlap another slice. A refused advance changes nothing at all. */
-huskerivory_advanced huskerivory_advance(huskerivory_description description,
-                                         const uint8_t *operations, size_t operations_len,
-                                         uint8_t *saved, size_t saved_len,
-                                         uint8_t *buffer, size_t buffer_len,
-                                         const uint8_t *answers, size_t answers_len,
-                                         uint8_t *log, size_t log_len);
+ * It returns one of the thirteen reports, and leaves the rest of what it has to say in `answer`, whatever that held. A refused
+ * advance changes nothing else. */
+uint32_t huskerivory_advance(const huskerivory_description *description,
+                             const uint8_t *operations, uint64_t operations_len,
+                             uint8_t *saved, uint64_t saved_len,
+                             uint8_t *buffer, uint64_t buffer_len,
+                             const uint8_t *answers, uint64_t answers_len,
+                             uint8_t *log, uint64_t log_len,
+                             huskerivory_advanced *answer);
 
 /* ---- Timing */
-
-typedef struct {
-    uint32_t refusal; /* 0, or the number of the refusal */
-    uint32_t timingr; /* the TIMINGR word, 0 if refused */
-} huskerivory_timing_answer;
 
 /* The fields of TIMINGR. */
 typedef struct {
     uint8_t presc, scldel, sdadel, sclh, scll;
 } huskerivory_timing_fields;
 
-/* The TIMINGR word for a kernel clock and a bus frequency in hertz, or one of the refusals 1 to 6. */
-huskerivory_timing_answer huskerivory_timing(uint32_t clock, uint32_t frequency);
+/* The TIMINGR word for a kernel clock and a bus frequency in hertz, and 0; or one of the refusals 1 to 6, and the word is 0. */
+uint32_t huskerivory_timing(uint32_t clock, uint32_t frequency, uint32_t *timingr);
 
-/* The TIMINGR word of five fields, or refusal 7. */
-huskerivory_timing_answer huskerivory_pack(uint8_t presc, uint8_t scldel, uint8_t sdadel, uint8_t sclh, uint8_t scll);
+/* The TIMINGR word of five fields, and 0; or refusal 7, and the word is 0. */
+uint32_t huskerivory_pack(const huskerivory_timing_fields *fields, uint32_t *timingr);
 
 /* The fields of a TIMINGR word; bits 24 to 27 belong to none. */
-huskerivory_timing_fields huskerivory_unpack(uint32_t timingr);
+void huskerivory_unpack(uint32_t timingr, huskerivory_timing_fields *fields);
+
+/* ---- Layout */
+
+/* To the library the three structs are arrays of numbers. All members of one have one size, so no compiler has a reason to leave
+ * a gap; if one did, this would not compile. */
+#if defined(__cplusplus) && __cplusplus >= 201103L
+#define HUSKERIVORY_SIZE(type, size) static_assert(sizeof(type) == (size), #type)
+#elif !defined(__cplusplus) && defined(__STDC_VERSION__) && __STDC_VERSION__ >= 201112L
+#define HUSKERIVORY_SIZE(type, size) _Static_assert(sizeof(type) == (size), #type)
+#else
+#define HUSKERIVORY_SIZE(type, size) typedef char type##_size[sizeof(type) == (size) ? 1 : -1]
+#endif
+HUSKERIVORY_SIZE(huskerivory_description, HUSKERIVORY_DESCRIPTION);
+HUSKERIVORY_SIZE(huskerivory_advanced, HUSKERIVORY_ADVANCED);
+HUSKERIVORY_SIZE(huskerivory_timing_fields, 5);
+#undef HUSKERIVORY_SIZE
 
 #ifdef __cplusplus
 }

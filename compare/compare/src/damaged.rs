@@ -14,7 +14,7 @@ use oracle::Fields;
 
 use crate::random::Random;
 use crate::rattle::{
-    self, saved, Advanced, Next, ENTRY, FULL, NONE_REFUSED, REFUSED, SAVED, WAITING,
+    self, saved, Advanced, Left, Next, ENTRY, FULL, NONE_REFUSED, REFUSED, SAVED, STEPS, WAITING,
 };
 use bytes::Bytes;
 use memory::Memory;
@@ -63,6 +63,9 @@ pub fn compare(limit: Limit, seed: u64, heap: bool) -> bool {
 
 /// The memory that is lent, and what came of it.
 struct Boundary {
+    /// For numbers: the description or the fields of a timing, and where one is left.
+    numbers: Memory,
+    left: Memory,
     operations: Memory,
     saved: Memory,
     buffer: Memory,
@@ -70,7 +73,7 @@ struct Boundary {
     log: Memory,
     calls: u64,
     /// Advances by their reports, and refused ones by their numbers.
-    reports: [u64; 13],
+    reports: [u64; FULL as usize + 1],
     refusals: [u64; 14],
 }
 
@@ -81,13 +84,15 @@ impl Boundary {
             false => Memory::guarded(MOST),
         };
         Boundary {
+            numbers: memory(),
+            left: memory(),
             operations: memory(),
             saved: memory(),
             buffer: memory(),
             answers: memory(),
             log: memory(),
             calls: 0,
-            reports: [0; 13],
+            reports: [0; FULL as usize + 1],
             refusals: [0; 14],
         }
     }
@@ -116,10 +121,7 @@ impl Boundary {
         }
         match random.up_to(7) {
             0 => self.begin(&lent, random),
-            1 => {
-                self.timing(random);
-                Ok(())
-            }
+            1 => self.timing(random),
             _ => self.advance(&lent, random).map(|(given, after)| {
                 if !damaged {
                     real.go_on(after, given.used);
@@ -134,21 +136,36 @@ impl Boundary {
         memory::note(self.calls);
     }
 
-    /// Numbers have no bytes to damage: that the calls come back is all.
-    fn timing(&mut self, random: &mut Random) {
+    /// Any numbers, with the same answers wherever they are lent.
+    fn timing(&mut self, random: &mut Random) -> Result<(), String> {
         self.count();
-        let _ = rattle::timing(random.of_length(32), random.of_length(32));
+        let (clock, frequency) = (random.of_length(32), random.of_length(32));
+        let timingr = self.left.lend_numbers(random.word(), to_end(random));
+        let refusal = rattle::timing_into(clock, frequency, timingr);
+        let given = rattle::answer(refusal, *timingr);
+        held("a timing", given == rattle::timing(clock, frequency))?;
+
         self.count();
         let [presc, scldel, sdadel, sclh] = random.word().to_le_bytes();
-        let _ = rattle::pack(Fields {
+        let fields = Fields {
             presc,
             scldel: scldel & 15,
             sdadel: sdadel & 31,
             sclh,
             scll: random.word() as u8,
-        });
+        };
+        let lent = self.numbers.lend_numbers(fields, to_end(random));
+        let timingr = self.left.lend_numbers(random.word(), to_end(random));
+        let refusal = rattle::pack_into(lent, timingr);
+        held("what was packed", *lent == fields)?;
+        let given = rattle::answer(refusal, *timingr);
+        held("a packed word", given == rattle::pack(fields))?;
+
         self.count();
-        let _ = rattle::unpack(random.word());
+        let word = random.word();
+        let fields = self.left.lend_numbers(fields, to_end(random));
+        rattle::unpack_into(word, fields);
+        held("unpacked fields", *fields == rattle::unpack(word))
     }
 
     fn begin(&mut self, lent: &Bytes, random: &mut Random) -> Result<(), String> {
@@ -156,7 +173,9 @@ impl Boundary {
         let operations = self.operations.lend(&lent.operations, to_end(random));
         let buffer = self.buffer.lend(&lent.buffer, to_end(random));
         let saved = self.saved.lend(&lent.saved, to_end(random));
-        let given = rattle::begin(lent.description, operations, buffer, saved);
+        let description = self.numbers.lend_numbers(lent.description, to_end(random));
+        let given = rattle::begin(description, operations, buffer, saved);
+        held("the description", *description == lent.description)?;
         kept("the operations", operations, &lent.operations)?;
         kept("the buffer", buffer, &lent.buffer)?;
         let length = (saved.len() != SAVED).then_some(13);
@@ -169,7 +188,7 @@ impl Boundary {
         if given == 0 {
             expected[..4].copy_from_slice(&lent.description.call.to_le_bytes());
             expected[4 * saved::STEP] = saved[4 * saved::STEP];
-            held("the step", saved[4 * saved::STEP] <= 45)?;
+            held("the step", u32::from(saved[4 * saved::STEP]) < STEPS)?;
         }
         kept("the begun call", saved, &expected)
     }
@@ -180,7 +199,13 @@ impl Boundary {
         let operations = self.operations.lend(&lent.operations, to_end(random));
         let buffer = self.buffer.lend(&lent.buffer, to_end(random));
         let saved = self.saved.lend(&lent.saved, to_end(random));
-        let next = rattle::next(lent.description, operations, saved, buffer);
+        let description = self.numbers.lend_numbers(lent.description, to_end(random));
+        let value = self.left.lend_numbers(random.word(), to_end(random));
+        let kind = rattle::next_into(description, operations, saved, buffer, value);
+        let next = Next {
+            kind,
+            value: *value,
+        };
         kept("the saved call", saved, &lent.saved)?;
         kept("the buffer", buffer, &lent.buffer)?;
 
@@ -188,7 +213,11 @@ impl Boundary {
         memory::note(self.calls);
         let answers = self.answers.lend(&lent.answers, to_end(random));
         let log = self.log.lend(&lent.log, to_end(random));
-        let given = rattle::advance(lent.description, operations, saved, buffer, answers, log);
+        let left = self.left.lend_numbers(Left::UNWRITTEN, to_end(random));
+        let report =
+            rattle::advance_into(description, operations, saved, buffer, answers, log, left);
+        let given = left.reported(report);
+        held("the description", *description == lent.description)?;
         kept("the operations", operations, &lent.operations)?;
         kept("the answers", answers, &lent.answers)?;
         let after = Bytes {
@@ -208,7 +237,7 @@ impl Boundary {
         lent.hold_refusal(given, &after)?;
         lent.hold_progress(given, &after, next)?;
         if given.report != REFUSED {
-            let again = rattle::next(lent.description, operations, saved, buffer);
+            let again = rattle::next(description, operations, saved, buffer);
             held("the call after is taken", again.kind != NONE_REFUSED)?;
         }
         Ok((given, after))
@@ -247,7 +276,7 @@ impl Bytes {
             0 | 7 | 8 => true,
             outcome => outcome <= 9 && word(saved::VALUE) == 0,
         };
-        outcome && word(saved::STEP) <= 45 && word(saved::CALL) == self.description.call
+        outcome && word(saved::STEP) < STEPS && word(saved::CALL) == self.description.call
     }
 
     fn hold_refusal(&self, given: Advanced, after: &Bytes) -> Result<(), String> {

@@ -43,6 +43,9 @@ fn main() -> ExitCode {
 /// Whether the command found all well, or what is wrong with its arguments or files.
 fn command(mut arguments: Arguments) -> Result<bool, String> {
     let command = arguments.first()?;
+    if let "timing" | "packing" | "runs" | "speed" | "damaged" = command.as_str() {
+        rattle::check_library()?;
+    }
     match command.as_str() {
         "timing" => {
             let pairs = arguments.number("--pairs", 1_000_000)?;

@@ -1,7 +1,7 @@
 //! The Rattle library, across its C boundary.
 //!
-//! A slice crosses as a pointer and a length. Words cross as little-endian bytes: [`bytes`] lends
-//! words as they lie in memory.
+//! A slice crosses as a pointer and a length of 64 bits, a struct as a pointer to its numbers.
+//! Words cross as little-endian bytes: [`bytes`] lends words as they lie in memory.
 
 use crate::answer::{Answer, Refusal};
 use oracle::{Asked, Fields};
@@ -23,22 +23,43 @@ pub const READ: u32 = 1;
 pub const WRITE: u32 = 2;
 pub const NONE_REFUSED: u32 = 3;
 
-/// A refusal of 0 means that the word is given.
-#[repr(C)]
-struct TimingAnswer {
-    refusal: u32,
-    timingr: u32,
+/// The version that this program was written for, and its sizes in the header's order.
+const ABI: u32 = 2;
+const SIZES: [u32; 8] = [
+    size_of::<Description>() as u32,
+    SAVED as u32,
+    size_of::<Left>() as u32,
+    ENTRY as u32,
+    64,
+    65_535,
+    FULL + 1,
+    STEPS,
+];
+
+/// How many steps a saved call may name.
+pub const STEPS: u32 = 46;
+
+/// What is wrong with the library that is linked, if it is another one.
+pub fn check_library() -> Result<(), String> {
+    let mut sizes = [u32::MAX; 8];
+    // SAFETY: it writes eight numbers.
+    let version = unsafe { huskerivory_abi(&mut sizes) };
+    if (version, sizes) == (ABI, SIZES) {
+        return Ok(());
+    }
+    Err(format!(
+        "the library says version {version} and sizes {sizes:?}, \
+         this program was written for {ABI} and {SIZES:?}"
+    ))
 }
 
-impl From<TimingAnswer> for Answer {
-    fn from(answer: TimingAnswer) -> Self {
-        let TimingAnswer { refusal, timingr } = answer;
-        if refusal == 0 {
-            return Ok(timingr);
-        }
-        assert_eq!(timingr, 0, "refusal {refusal} comes with a word");
-        Err(Refusal(refusal))
+/// A refusal of 0 means that the word is given.
+pub fn answer(refusal: u32, timingr: u32) -> Answer {
+    if refusal == 0 {
+        return Ok(timingr);
     }
+    assert_eq!(timingr, 0, "refusal {refusal} comes with a word");
+    Err(Refusal(refusal))
 }
 
 /// What is asked for. Flags are words: not 0 means set.
@@ -56,6 +77,8 @@ pub struct Description {
     /// `NONE` for none; likewise `mask`.
     pub secondary: u32,
     pub mask: u32,
+    /// The library does not look at these.
+    pub reserved: [u32; 6],
 }
 
 impl Description {
@@ -75,12 +98,12 @@ impl From<&Asked> for Description {
             own_ten: asked.own_ten_bit.into(),
             secondary: asked.secondary_address.unwrap_or(Self::NONE),
             mask: asked.mask.unwrap_or(Self::NONE),
+            reserved: [0; 6],
         }
     }
 }
 
 /// How an advance came out.
-#[repr(C)]
 #[derive(Clone, Copy, Debug, PartialEq, Eq)]
 pub struct Advanced {
     pub report: u32,
@@ -94,8 +117,39 @@ pub struct Advanced {
     pub written: usize,
 }
 
-/// The access that an advance would make first.
+/// What an advance leaves besides its report.
 #[repr(C)]
+#[derive(Clone, Copy, Debug, PartialEq, Eq)]
+pub struct Left {
+    pub value: u64,
+    pub awaited: u64,
+    pub used: u64,
+    pub written: u64,
+}
+
+impl Left {
+    /// What stands there before an advance: numbers that none leaves.
+    pub const UNWRITTEN: Left = Left {
+        value: u64::MAX,
+        awaited: u64::MAX,
+        used: u64::MAX,
+        written: u64::MAX,
+    };
+
+    /// With its report. Every number is within the range of what it counts.
+    pub fn reported(self, report: u32) -> Advanced {
+        const WIDE: &str = "a number is too wide for what it counts";
+        Advanced {
+            report,
+            value: self.value.try_into().expect(WIDE),
+            awaited: self.awaited.try_into().expect(WIDE),
+            used: self.used.try_into().expect(WIDE),
+            written: self.written.try_into().expect(WIDE),
+        }
+    }
+}
+
+/// The access that an advance would make first.
 #[derive(Clone, Copy, Debug, PartialEq, Eq)]
 pub struct Next {
     pub kind: u32,
@@ -104,111 +158,182 @@ pub struct Next {
 }
 
 extern "C" {
-    fn huskerivory_timing(clock: u32, frequency: u32) -> TimingAnswer;
-    fn huskerivory_pack(presc: u8, scldel: u8, sdadel: u8, sclh: u8, scll: u8) -> TimingAnswer;
-    fn huskerivory_unpack(timingr: u32) -> Fields;
+    fn huskerivory_abi(sizes: *mut [u32; 8]) -> u32;
+    fn huskerivory_timing(clock: u32, frequency: u32, timingr: *mut u32) -> u32;
+    fn huskerivory_pack(fields: *const Fields, timingr: *mut u32) -> u32;
+    fn huskerivory_unpack(timingr: u32, fields: *mut Fields);
 
     fn huskerivory_begin(
-        description: Description,
+        description: *const Description,
         operations: *const u8,
-        operations_len: usize,
+        operations_len: u64,
         buffer: *const u8,
-        buffer_len: usize,
+        buffer_len: u64,
         saved: *mut u8,
-        saved_len: usize,
+        saved_len: u64,
     ) -> u32;
     fn huskerivory_advance(
-        description: Description,
+        description: *const Description,
         operations: *const u8,
-        operations_len: usize,
+        operations_len: u64,
         saved: *mut u8,
-        saved_len: usize,
+        saved_len: u64,
         buffer: *mut u8,
-        buffer_len: usize,
+        buffer_len: u64,
         answers: *const u8,
-        answers_len: usize,
+        answers_len: u64,
         log: *mut u8,
-        log_len: usize,
-    ) -> Advanced;
+        log_len: u64,
+        answer: *mut Left,
+    ) -> u32;
     fn huskerivory_next(
-        description: Description,
+        description: *const Description,
         operations: *const u8,
-        operations_len: usize,
+        operations_len: u64,
         saved: *const u8,
-        saved_len: usize,
+        saved_len: u64,
         buffer: *const u8,
-        buffer_len: usize,
-    ) -> Next;
+        buffer_len: u64,
+        value: *mut u32,
+    ) -> u32;
 }
 
-// SAFETY, of the next three: they take and return plain numbers and touch no memory of ours.
+// SAFETY, of the next three: each pointer is that of a number or a struct of ours, as large as what
+// is read or written there.
+
+/// The refusal; the word is left where it is told.
+pub fn timing_into(clock: u32, frequency: u32, timingr: &mut u32) -> u32 {
+    unsafe { huskerivory_timing(clock, frequency, timingr) }
+}
+
+pub fn pack_into(fields: &Fields, timingr: &mut u32) -> u32 {
+    unsafe { huskerivory_pack(fields, timingr) }
+}
+
+pub fn unpack_into(timingr: u32, fields: &mut Fields) {
+    unsafe { huskerivory_unpack(timingr, fields) }
+}
 
 pub fn timing(clock: u32, frequency: u32) -> Answer {
-    unsafe { huskerivory_timing(clock, frequency) }.into()
+    let mut timingr = u32::MAX;
+    let refusal = timing_into(clock, frequency, &mut timingr);
+    answer(refusal, timingr)
 }
 
-pub fn pack(f: Fields) -> Answer {
-    unsafe { huskerivory_pack(f.presc, f.scldel, f.sdadel, f.sclh, f.scll) }.into()
+pub fn pack(fields: Fields) -> Answer {
+    let mut timingr = u32::MAX;
+    let refusal = pack_into(&fields, &mut timingr);
+    answer(refusal, timingr)
 }
 
 pub fn unpack(timingr: u32) -> Fields {
-    unsafe { huskerivory_unpack(timingr) }
+    let mut fields = UNWRITTEN_FIELDS;
+    unpack_into(timingr, &mut fields);
+    fields
 }
 
-// SAFETY, of the next three: each pointer and length are those of one slice, which is never at null;
-// the borrows keep what is written apart from all else, and nothing is kept after the call.
+/// What stands there before a word is unpacked.
+pub const UNWRITTEN_FIELDS: Fields = Fields {
+    presc: 0xA5,
+    scldel: 0xA5,
+    sdadel: 0xA5,
+    sclh: 0xA5,
+    scll: 0xA5,
+};
+
+// SAFETY, of the next three: each pointer and length are those of one slice, which is never at null,
+// or of a struct or number that is borrowed; the borrows keep what is written apart from all else,
+// and nothing is kept after the call.
 
 /// Begins a call: 0 and the saved call, or a refusal's number and, where there is room for one, the
 /// saved call that no advance takes.
-pub fn begin(description: Description, operations: &[u8], buffer: &[u8], saved: &mut [u8]) -> u32 {
+pub fn begin(description: &Description, operations: &[u8], buffer: &[u8], saved: &mut [u8]) -> u32 {
     unsafe {
         huskerivory_begin(
             description,
             operations.as_ptr(),
-            operations.len(),
+            operations.len() as u64,
             buffer.as_ptr(),
-            buffer.len(),
+            buffer.len() as u64,
             saved.as_mut_ptr(),
-            saved.len(),
+            saved.len() as u64,
         )
     }
 }
 
 pub fn advance(
-    description: Description,
+    description: &Description,
     operations: &[u8],
     saved: &mut [u8],
     buffer: &mut [u8],
     answers: &[u8],
     log: &mut [u8],
 ) -> Advanced {
+    let mut left = Left::UNWRITTEN;
+    let report = advance_into(
+        description,
+        operations,
+        saved,
+        buffer,
+        answers,
+        log,
+        &mut left,
+    );
+    left.reported(report)
+}
+
+/// The report; the rest is left where it is told.
+pub fn advance_into(
+    description: &Description,
+    operations: &[u8],
+    saved: &mut [u8],
+    buffer: &mut [u8],
+    answers: &[u8],
+    log: &mut [u8],
+    left: &mut Left,
+) -> u32 {
     unsafe {
         huskerivory_advance(
             description,
             operations.as_ptr(),
-            operations.len(),
+            operations.len() as u64,
             saved.as_mut_ptr(),
-            saved.len(),
+            saved.len() as u64,
             buffer.as_mut_ptr(),
-            buffer.len(),
+            buffer.len() as u64,
             answers.as_ptr(),
-            answers.len(),
+            answers.len() as u64,
             log.as_mut_ptr(),
-            log.len(),
+            log.len() as u64,
+            left,
         )
     }
 }
 
-pub fn next(description: Description, operations: &[u8], saved: &[u8], buffer: &[u8]) -> Next {
+pub fn next(description: &Description, operations: &[u8], saved: &[u8], buffer: &[u8]) -> Next {
+    let mut value = u32::MAX;
+    let kind = next_into(description, operations, saved, buffer, &mut value);
+    Next { kind, value }
+}
+
+/// The kind; the value is left where it is told.
+pub fn next_into(
+    description: &Description,
+    operations: &[u8],
+    saved: &[u8],
+    buffer: &[u8],
+    value: &mut u32,
+) -> u32 {
     unsafe {
         huskerivory_next(
             description,
             operations.as_ptr(),
-            operations.len(),
+            operations.len() as u64,
             saved.as_ptr(),
-            saved.len(),
+            saved.len() as u64,
             buffer.as_ptr(),
-            buffer.len(),
+            buffer.len() as u64,
+            value,
         )
     }
 }
@@ -244,6 +369,12 @@ mod tests {
     use super::*;
 
     #[test]
+    fn the_library_is_the_one_that_this_was_written_for() {
+        assert_eq!(check_library(), Ok(()));
+        assert_eq!(SIZES, [64, 32, 32, 8, 64, 65_535, 13, 46]);
+    }
+
+    #[test]
     fn the_run_that_document_01_prints() {
         let description = Description {
             call: 7,
@@ -255,15 +386,15 @@ mod tests {
         let operations = bytes(&[2]);
         let mut saved = [0xA5; SAVED];
         let mut buffer = [0x12, 0x34];
-        assert_eq!(begin(description, operations, &buffer, &mut saved), 0);
+        assert_eq!(begin(&description, operations, &buffer, &mut saved), 0);
         assert_eq!(word(&saved, saved::CALL), 7);
 
         let answers = bytes(&[1, 0x0202_00A0, 3, 3, 0x21]);
         let mut log = [0xA5; 9 * ENTRY + 3];
-        let next = next(description, operations, &saved, &buffer);
+        let next = next(&description, operations, &saved, &buffer);
         assert_eq!((next.kind, next.value), (WRITE, 4));
         let given = advance(
-            description,
+            &description,
             operations,
             &mut saved,
             &mut buffer,

@@ -14,7 +14,7 @@ use crate::calls::build::{call, counted, transaction, READ};
 use crate::calls::case::Case;
 use crate::calls::chip::*;
 use crate::calls::run::Run;
-use crate::rattle::{self, Advanced, Description, ENTRY, FULL, SAVED, WAITING};
+use crate::rattle::{self, Description, Left, ENTRY, FULL, SAVED, WAITING};
 use crate::runs;
 
 /// How long a batch takes at least, and all batches of a workload, in ns.
@@ -265,6 +265,7 @@ struct Rattle<'a> {
     buffer: Vec<u8>,
     log: Vec<u8>,
     saved: [u8; SAVED],
+    left: Left,
 }
 
 impl<'a> Rattle<'a> {
@@ -276,12 +277,13 @@ impl<'a> Rattle<'a> {
             buffer: case.buffer.clone(),
             log: vec![0; (accesses + PLACES) * ENTRY],
             saved: [0; SAVED],
+            left: Left::UNWRITTEN,
         }
     }
 
     fn begin(&mut self) {
         let refusal = rattle::begin(
-            self.description,
+            &self.description,
             self.operations,
             &self.buffer,
             &mut self.saved,
@@ -289,41 +291,49 @@ impl<'a> Rattle<'a> {
         debug_assert_eq!(refusal, 0);
     }
 
-    fn advance(&mut self, answers: &'a [u8], places: usize) -> Advanced {
-        rattle::advance(
-            self.description,
+    /// The report; the numbers that come with it are left as the library wrote them, since looking
+    /// at each is no part of what is measured.
+    fn advance(&mut self, answers: &'a [u8], places: usize) -> u32 {
+        rattle::advance_into(
+            &self.description,
             self.operations,
             &mut self.saved,
             &mut self.buffer,
             answers,
             &mut self.log[..places * ENTRY],
+            &mut self.left,
         )
+    }
+
+    fn written(&self) -> usize {
+        self.left.written as usize
     }
 
     /// The accesses of a run in one advance.
     fn uncut(&mut self) -> usize {
         self.begin();
         let places = self.log.len() / ENTRY;
-        self.advance(self.answers, places).written
+        self.advance(self.answers, places);
+        self.written()
     }
 
     /// The accesses of a run as firmware makes it: each answer by an advance of its own.
     fn single(&mut self) -> usize {
         self.begin();
-        let mut left = self.answers;
-        let mut given = self.advance(&[], PLACES);
-        let mut accesses = given.written;
+        let mut answers = self.answers;
+        let mut report = self.advance(&[], PLACES);
+        let mut accesses = self.written();
         loop {
-            given = match given.report {
-                WAITING if !left.is_empty() => {
-                    let (answer, rest) = left.split_at(4);
-                    left = rest;
+            report = match report {
+                WAITING if !answers.is_empty() => {
+                    let (answer, rest) = answers.split_at(4);
+                    answers = rest;
                     self.advance(answer, PLACES)
                 }
                 FULL => self.advance(&[], PLACES),
                 _ => return accesses,
             };
-            accesses += given.written;
+            accesses += self.written();
         }
     }
 }

@@ -10,7 +10,7 @@ use Rattle.calls.proofs.Cut.{two-each}
 use Rattle.calls.proofs.Joined.{within}
 use Rattle.calls.specs.Advances.{isRefusal}
 use Rattle.calls.specs.Joined.{Reached, asReached, reachedBy}
-use Rattle.calls.specs.Outcomes.{reportNumber, reportValue, awaitedOf}
+use Rattle.calls.specs.Outcomes.{reportNumber}
 use Rattle.calls.specs.Run.{Run, wordsOf, begunOf, runOf}
 use Rattle.calls.specs.declared.Advanced.{Advanced}
 use Rattle.calls.specs.declared.Begun.{Begun}
@@ -20,7 +20,7 @@ use Rattle.calls.specs.declared.SavedCall.{SavedCall}
 use Rattle.saved.specs.Saved.{savedIn, writtenTo}
 use Rattle.words.proofs.Turns.{decoded-words}
 use Rattle.words.specs.Words.{wordsIn, asDecoded, decodedOf, putWords}
-use Rattle.boundary.specs.Calls.{verdictNumber, operationsIn, asBeginLeft, beginLeftIn, logAfter, asAdvanceLeft, advanceLeftIn}
+use Rattle.boundary.specs.Calls.{verdictNumber, operationsIn, asBeginLeft, beginLeftIn, logAfter, numbersOf, answerFor, asAdvanceLeft, advanceLeftIn}
 use Rattle.advance_bytes.specs.Pieces.{inBytes}
 
 -- the list that 65 words have room for
@@ -48,17 +48,16 @@ module _ (d : Description) (ops saved b answers log : List ℕ) (t : Advanced) (
       let e : 4 * length (wordsOf (R .entries)) ≡ 8 * length (R .entries) = omega arith in
       ap (λ (G : Reached (List ℕ)). G .out) C ∙ rw (le-leb (4 * length (wordsOf (R .entries))) (length log) (omega arith), e)
 
-  pub advances : (report value awaited : ℕ) (saved′ : List ℕ) →
-      report ≡ reportNumber (t .report) → value ≡ reportValue (t .report) → awaited ≡ awaitedOf (t .report) →
+  pub advances : (report : ℕ) (answer saved′ : List ℕ) →
+      report ≡ reportNumber (t .report) → answer ≡ numbersOf (answerFor (t .report) (t .used) (t .written)) →
       saved′ ≡ cond (isRefusal (t .report)) saved (writtenTo saved (t .saved)) →
-      asAdvanceLeft (record { report = report; value = value; awaited = awaited; used = t .used; written = t .written }) saved′ b′ log′
-      ≡ advanceLeftIn d ops saved b answers log
-  advances report value awaited saved′ e f g h =
+      asAdvanceLeft report answer saved′ b′ log′ ≡ advanceLeftIn d ops saved b answers log
+  advances report answer saved′ e f g =
       let r : t .report ≡ R .report = ap (λ (G : Reached (List ℕ)). G .advanced .report) C in
       let s : t .saved ≡ R .saved = ap (λ (G : Reached (List ℕ)). G .advanced .saved) C in
       let u : t .used ≡ R .used = ap (λ (G : Reached (List ℕ)). G .advanced .used) C in
       let w : t .written ≡ length (R .entries) = ap (λ (G : Reached (List ℕ)). G .advanced .written) C in
-      rw (e, f, g, h, r, s, u, w, whole-log, ap (λ (G : Reached (List ℕ)). G .buffer) C)
+      rw (e, f, g, r, s, u, w, whole-log, ap (λ (G : Reached (List ℕ)). G .buffer) C)
 
 -- ---- the saved call: left as it is by a refusal, and else written
 module _ (r : Bool) (report : Report) (saved : List ℕ) (is : r ≡ isRefusal report) where

@@ -43,9 +43,8 @@ use Rattle.saved.specs.Saved.{savedLength, savedWords, savedBytes, savedIn, wri
 use Rattle.words.proofs.Round.{words-before, bytes-make-words}
 use Rattle.words.proofs.Turns.{length-bytes, words-drop}
 use Rattle.words.specs.Words.{Below, wordsIn, bytesOf}
-use Rattle.boundary.specs.Calls.{descriptionOf, operationsIn, verdictNumber, BeginLeft, logAfter, AdvanceLeft}
-use Rattle.boundary.specs.Demand.{BoundaryBegin, BoundaryAdvance, saysRefused, BytesInTurn, BytesAfter, reportIn, asAdvance, ReadExactly, AllReadExactly, BoundaryDemand3}
-use Rattle.boundary.specs.declared.call.CallDescription.{CallDescription}
+use Rattle.boundary.specs.Calls.{descriptionOf, operationsIn, verdictNumber, BeginLeft, answerFor, logAfter, AdvanceLeft}
+use Rattle.boundary.specs.Demand.{BoundaryBegin, BoundaryAdvance, saysRefused, answerIn, answerOf, BytesInTurn, BytesAfter, reportIn, asAdvance, ReadExactly, AllReadExactly, BoundaryDemand3}
 use Rattle.boundary.proofs.huskerivory_advance as advance
 use Rattle.boundary.proofs.huskerivory_advance.Reads as advance-reads
 use Rattle.boundary.proofs.huskerivory_begin as begin
@@ -56,8 +55,7 @@ word = 4294967296
 
 -- ---- a report is read from its numbers
 record ReadBack (r : Report) : Type 0 where
-  report : (used written : ℕ) →
-      reportIn (record { report = reportNumber r; value = reportValue r; awaited = awaitedOf r; used = used; written = written }) ≡ r
+  report : (used written : ℕ) → reportIn (reportNumber r) (answerFor r used written) ≡ r
   refusal : eqb (reportNumber r) refusedNumber ≡ isRefusal r
 
 read-back : (r : Report) → ReadBack r
@@ -96,13 +94,13 @@ runIn C =
     (wordsIn (C .answers))
 
 pub record Said (C : BoundaryAdvance) (R : Run) : Type 0 where
-  pub number : C .answer .report ≡ reportNumber (R .report)
-  pub value : C .answer .value ≡ reportValue (R .report)
-  pub awaited : C .answer .awaited ≡ awaitedOf (R .report)
-  pub report : reportIn (C .answer) ≡ R .report
+  pub number : C .report ≡ reportNumber (R .report)
+  pub value : answerOf C .value ≡ reportValue (R .report)
+  pub awaited : answerOf C .awaited ≡ awaitedOf (R .report)
+  pub report : reportIn (C .report) (answerOf C) ≡ R .report
   pub refusal : saysRefused C ≡ isRefusal (R .report)
-  pub used : C .answer .used ≡ R .used
-  pub written : C .answer .written ≡ length (R .entries)
+  pub used : answerOf C .used ≡ R .used
+  pub written : answerOf C .written ≡ length (R .entries)
   pub saved : C .savedLeft ≡ cond (saysRefused C) (C .saved) (writtenTo (C .saved) (R .saved))
   pub buffer : C .bufferLeft ≡ R .buffer
   pub log : C .logLeft ≡ logAfter (R .entries) (C .log)
@@ -110,18 +108,18 @@ pub record Said (C : BoundaryAdvance) (R : Run) : Type 0 where
 pub said : (C : BoundaryAdvance) → Said C (runIn C)
 said C =
     let R : Run = runIn C in
-    let number : C .answer .report ≡ reportNumber (R .report) = ap (λ (F : AdvanceLeft). F .answer .report) (C .contract) in
-    let value : C .answer .value ≡ reportValue (R .report) = ap (λ (F : AdvanceLeft). F .answer .value) (C .contract) in
-    let awaited : C .answer .awaited ≡ awaitedOf (R .report) = ap (λ (F : AdvanceLeft). F .answer .awaited) (C .contract) in
+    let number : C .report ≡ reportNumber (R .report) = ap (λ (F : AdvanceLeft). F .report) (C .contract) in
+    let value : answerOf C .value ≡ reportValue (R .report) = ap (λ (F : AdvanceLeft). answerIn (F .answer) .value) (C .contract) in
+    let awaited : answerOf C .awaited ≡ awaitedOf (R .report) = ap (λ (F : AdvanceLeft). answerIn (F .answer) .awaited) (C .contract) in
     let refusal : saysRefused C ≡ isRefusal (R .report) = rw number (read-back (R .report) .refusal) in
     record {
       number = number;
       value = value;
       awaited = awaited;
-      report = ap reportIn (ap (λ (F : AdvanceLeft). F .answer) (C .contract)) ∙ read-back (R .report) .report (R .used) (length (R .entries));
+      report = ap (λ (F : AdvanceLeft). reportIn (F .report) (answerIn (F .answer))) (C .contract) ∙ read-back (R .report) .report (R .used) (length (R .entries));
       refusal = refusal;
-      used = ap (λ (F : AdvanceLeft). F .answer .used) (C .contract);
-      written = ap (λ (F : AdvanceLeft). F .answer .written) (C .contract);
+      used = ap (λ (F : AdvanceLeft). answerIn (F .answer) .used) (C .contract);
+      written = ap (λ (F : AdvanceLeft). answerIn (F .answer) .written) (C .contract);
       saved = rw refusal (ap (λ (F : AdvanceLeft). F .saved) (C .contract));
       buffer = ap (λ (F : AdvanceLeft). F .buffer) (C .contract);
       log = ap (λ (F : AdvanceLeft). F .log) (C .contract);
@@ -190,7 +188,7 @@ module _ (C : BoundaryAdvance) where
       let ws : List ℕ = wordsOf (R .entries) in
       let t = two-each (R .entries) in
       let l = length-bytes ws in
-      let words : take (2 * C .answer .written) (wordsIn (C .logLeft)) ≡ ws =
+      let words : take (2 * answerOf C .written) (wordsIn (C .logLeft)) ≡ ws =
       rw (s .written, log-words x) (take-at ws (drop (length ws) (wordsIn (C .log))) (2 * length (R .entries)) t) in
       record {
         report = rw (s .report) (s .number);
@@ -205,7 +203,7 @@ module _ (C : BoundaryAdvance) where
       }
 
 -- ---- the list, by what each accepted advance keeps of the saved bytes and the buffer
-module _ (a : CallDescription) (o : List ℕ) (Inv : List ℕ → List ℕ → Type 0)
+module _ (a o : List ℕ) (Inv : List ℕ → List ℕ → Type 0)
     (keeps : (C : BoundaryAdvance) → C .description ≡ a → C .operations ≡ o → T (not (saysRefused C)) → Inv (C .saved) (C .buffer) →
     Exact C × Inv (C .savedLeft) (C .bufferLeft)) where
   record Followed (Cs : List BoundaryAdvance) (s b : List ℕ) : Type 0 where
@@ -239,7 +237,7 @@ pub written-here : (bytes : List ℕ) (s : SavedCall) → length bytes ≡ saved
 unfolding writtenTo
 written-here bytes s h = rw (eq-eqb (length bytes) savedLength h)
 
-saved-length : (s : SavedCall) → length (savedBytes s) ≡ savedLength
+pub saved-length : (s : SavedCall) → length (savedBytes s) ≡ savedLength
 unfolding savedBytes
 saved-length s = length-bytes (savedWords s)
 
@@ -258,7 +256,7 @@ no-call bytes =
     (no-place bytes noCall)
 
 -- ---- after an accepted begin
-module _ (c : Call) (a : CallDescription) (o : List ℕ) (n : ℕ) (ok : checkOf (descriptionOf a) (operationsIn o) n ≡ Accepted c) where
+module _ (c : Call) (a o : List ℕ) (n : ℕ) (ok : checkOf (descriptionOf a) (operationsIn o) n ≡ Accepted c) where
   abbrev q : Request
   q = requestOf c (descriptionOf a) (operationsIn o) n
 
@@ -392,7 +390,7 @@ beginning C =
     let (description, (operations, (buffer, (saved, _)))) = C .given in
     let (_, (_, (_, (savedLeft, _)))) = C .left in
     record {
-      description = description;
+      description = description .now;
       operations = operations .now;
       buffer = buffer .now;
       saved = saved .now;
@@ -404,15 +402,16 @@ beginning C =
 abbrev pub advancing : AdvanceCall → BoundaryAdvance
 advancing C =
     let (description, (operations, (saved, (buffer, (answers, (log, _)))))) = C .given in
-    let (_, (_, (savedLeft, (bufferLeft, (_, (logLeft, _)))))) = C .left in
+    let (_, (_, (savedLeft, (bufferLeft, (_, (logLeft, (answer, _))))))) = C .left in
     record {
-      description = description;
+      description = description .now;
       operations = operations .now;
       saved = saved .now;
       buffer = buffer .now;
       answers = answers .now;
       log = log .now;
-      answer = C .gave;
+      report = C .gave;
+      answer = answer .now;
       savedLeft = savedLeft .now;
       bufferLeft = bufferLeft .now;
       logLeft = logLeft .now;

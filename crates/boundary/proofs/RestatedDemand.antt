@@ -34,24 +34,23 @@ use Rattle.saved.proofs.Words.{begin-words}
 use Rattle.saved.specs.Saved.{savedBytes, savedIn}
 use Rattle.words.proofs.Turns.{bytes-append}
 use Rattle.words.specs.Words.{wordsIn, bytesOf}
-use Rattle.boundary.specs.Calls.{descriptionOf, operationsIn}
-use Rattle.boundary.specs.Demand.{saysRefused, BytesInTurn, asAdvance, registers, registerIn, requestIn, Ran, ReadExactly, AllReadExactly, BoundaryDemand3}
-use Rattle.boundary.specs.declared.call.CallDescription.{CallDescription}
+use Rattle.boundary.specs.Calls.{told, descriptionOf, operationsIn}
+use Rattle.boundary.specs.Demand.{saysRefused, answerOf, BytesInTurn, asAdvance, registers, registerIn, requestIn, Ran, ReadExactly, AllReadExactly, BoundaryDemand3}
 use Rattle.boundary.proofs.Demand.{same-refusal, BeginCall, beginning, AdvanceCall, advancing, boundary-demand-3}
 
 -- ---- the list: each advance goes on from the saved bytes that the last call left, a refused one lent anything.
-data Linked (d : CallDescription) (ops : List ℕ) : List AdvanceCall → List ℕ → List ℕ → Type 0 where
+data Linked (d ops : List ℕ) : List AdvanceCall → List ℕ → List ℕ → Type 0 where
   end : {s b : List ℕ} → Linked d ops [] s b
   apart : {C : AdvanceCall} {Cs : List AdvanceCall} {s b : List ℕ} →
-      advancing C .saved ≡ s → advancing C .answer .report ≡ refusedNumber → Linked d ops Cs (advancing C .savedLeft) b → Linked d ops (C ∷ Cs) s b
+      advancing C .saved ≡ s → advancing C .report ≡ refusedNumber → Linked d ops Cs (advancing C .savedLeft) b → Linked d ops (C ∷ Cs) s b
   on : {C : AdvanceCall} {Cs : List AdvanceCall} {s b : List ℕ} →
       advancing C .saved ≡ s → advancing C .description ≡ d → advancing C .operations ≡ ops → advancing C .buffer ≡ b →
-      T (not (eqb (advancing C .answer .report) refusedNumber)) → Linked d ops Cs (advancing C .savedLeft) (advancing C .bufferLeft) → Linked d ops (C ∷ Cs) s b
+      T (not (eqb (advancing C .report) refusedNumber)) → Linked d ops Cs (advancing C .savedLeft) (advancing C .bufferLeft) → Linked d ops (C ∷ Cs) s b
 
-not-both : (C : AdvanceCall) {X : Type 0} → C .gave .report ≡ refusedNumber → T (not (saysRefused (advancing C))) → X
+not-both : (C : AdvanceCall) {X : Type 0} → C .gave ≡ refusedNumber → T (not (saysRefused (advancing C))) → X
 not-both C e n = (let h : T (saysRefused (advancing C)) = rw e tt in absurd (T-not (saysRefused (advancing C)) n h))
 
-in-turn : (d : CallDescription) (ops : List ℕ) (Cs : List AdvanceCall) (s b : List ℕ) → Linked d ops Cs s b → BytesInTurn d ops s b (map advancing Cs)
+in-turn : (d ops : List ℕ) (Cs : List AdvanceCall) (s b : List ℕ) → Linked d ops Cs s b → BytesInTurn d ops s b (map advancing Cs)
 in-turn d ops [] s b end = tt
 in-turn d ops (C ∷ Cs) s b (apart e r l) =
     let h : T (saysRefused (advancing C)) = rw r tt in (
@@ -66,11 +65,11 @@ in-turn d ops (C ∷ Cs) s b (on e f g h n l) = (
 -- What the calls did together, in bytes: the entries' bytes, the answers used, and what is left of the saved call and the buffer.
 abbrev logBytes : List AdvanceCall → List ℕ
 logBytes [] = []
-logBytes (C ∷ Cs) = take (8 * C .gave .written) (advancing C .logLeft) ++ logBytes Cs
+logBytes (C ∷ Cs) = take (8 * answerOf (advancing C) .written) (advancing C .logLeft) ++ logBytes Cs
 
 abbrev answersUsed : List AdvanceCall → List ℕ
 answersUsed [] = []
-answersUsed (C ∷ Cs) = take (C .gave .used) (wordsIn (advancing C .answers)) ++ answersUsed Cs
+answersUsed (C ∷ Cs) = take (answerOf (advancing C) .used) (wordsIn (advancing C .answers)) ++ answersUsed Cs
 
 abbrev lastSaved : List AdvanceCall → List ℕ → List ℕ
 lastSaved [] s = s
@@ -78,7 +77,7 @@ lastSaved (C ∷ Cs) s = lastSaved Cs (advancing C .savedLeft)
 
 abbrev lastBuffer : List AdvanceCall → List ℕ → List ℕ
 lastBuffer [] b = b
-lastBuffer (C ∷ Cs) b = lastBuffer Cs (cond (eqb (C .gave .report) refusedNumber) b (advancing C .bufferLeft))
+lastBuffer (C ∷ Cs) b = lastBuffer Cs (cond (eqb (C .gave) refusedNumber) b (advancing C .bufferLeft))
 
 -- it is what demand 3 says of the advances that they are
 abbrev As : List AdvanceCall → List Advance
@@ -86,13 +85,13 @@ As Cs = map asAdvance (map advancing Cs)
 
 same-answers : (Cs : List AdvanceCall) → given (As Cs) ≡ answersUsed Cs
 same-answers [] = refl
-same-answers (C ∷ Cs) = ap (λ (l : List ℕ). take (C .gave .used) (wordsIn (advancing C .answers)) ++ l) (same-answers Cs)
+same-answers (C ∷ Cs) = ap (λ (l : List ℕ). take (answerOf (advancing C) .used) (wordsIn (advancing C .answers)) ++ l) (same-answers Cs)
 
 same-buffer : (Cs : List AdvanceCall) (b : List ℕ) → bufferAfter (As Cs) b ≡ lastBuffer Cs b
 same-buffer [] b = refl
 same-buffer (C ∷ Cs) b =
     ap (λ (r : Bool). bufferAfter (As Cs) (cond r b (advancing C .bufferLeft))) (same-refusal (advancing C))
-    ∙ same-buffer Cs (cond (eqb (C .gave .report) refusedNumber) b (advancing C .bufferLeft))
+    ∙ same-buffer Cs (cond (eqb (C .gave) refusedNumber) b (advancing C .bufferLeft))
 
 same-saved : (Cs : List AdvanceCall) (s : List ℕ) → savedAfter (As Cs) (savedIn s) ≡ savedIn (lastSaved Cs s)
 same-saved [] s = refl
@@ -101,10 +100,10 @@ same-saved (C ∷ Cs) s = same-saved Cs (advancing C .savedLeft)
 same-log : (Cs : List AdvanceCall) → AllReadExactly (map advancing Cs) → bytesOf (joined (As Cs)) ≡ logBytes Cs
 same-log [] x = refl
 same-log (C ∷ Cs) x =
-    bytes-append (take (2 * C .gave .written) (wordsIn (advancing C .logLeft))) (joined (As Cs))
-    ∙ rw (← x .0 .entries) (ap (λ (l : List ℕ). take (8 * C .gave .written) (advancing C .logLeft) ++ l) (same-log Cs (x .1)))
+    bytes-append (take (2 * answerOf (advancing C) .written) (wordsIn (advancing C .logLeft))) (joined (As Cs))
+    ∙ rw (← x .0 .entries) (ap (λ (l : List ℕ). take (8 * answerOf (advancing C) .written) (advancing C .logLeft) ++ l) (same-log Cs (x .1)))
 
-saved-whole : (d : CallDescription) (ops : List ℕ) (Cs : List AdvanceCall) (s b : List ℕ) → Linked d ops Cs s b → AllReadExactly (map advancing Cs) →
+saved-whole : (d ops : List ℕ) (Cs : List AdvanceCall) (s b : List ℕ) → Linked d ops Cs s b → AllReadExactly (map advancing Cs) →
     s ≡ savedBytes (savedIn s) → lastSaved Cs s ≡ savedBytes (savedIn (lastSaved Cs s))
 saved-whole d ops [] s b end x e = e
 saved-whole d ops (C ∷ Cs) s b (apart f r l) x e =
@@ -171,7 +170,7 @@ module _ (B : BeginCall) (Cs : List AdvanceCall) (z : B .gave ≡ 0)
   same-left = rw (← same-begun) (same-saved Cs (beginning B .savedLeft))
 
   -- its number is the description's
-  the-call : callNumber (ran .call) ≡ B .given .0 .call
+  the-call : callNumber (ran .call) ≡ told (beginning B .description) .call
   the-call = ran .named
 
   -- the entries are those of the uncut run over the answers used, whatever answers follow, and buffer and saved call are its own
@@ -244,26 +243,26 @@ module _ (B : BeginCall) (Cs : List AdvanceCall) (z : B .gave ≡ 0)
 
     -- lent the begun description it is not refused
     not-refused : advancing C .description ≡ beginning B .description → advancing C .operations ≡ beginning B .operations →
-        length (advancing C .buffer) ≡ length begun → T (not (eqb (C .gave .report) refusedNumber))
+        length (advancing C .buffer) ≡ length begun → T (not (eqb (C .gave) refusedNumber))
     not-refused e f g =
         let h = none-refused-at _ _ _ before C after (rw among at (ran .kept .one-run .accepted)) in
         rw (← same-refusal (advancing C)) (h (ap descriptionOf e) (ap operationsIn f) g)
 
     -- refused it uses nothing, and leaves each byte
-    uses-nothing : C .gave .report ≡ refusedNumber → (C .gave .used ≡ 0) × (C .gave .written ≡ 0)
+    uses-nothing : C .gave ≡ refusedNumber → (answerOf (advancing C) .used ≡ 0) × (answerOf (advancing C) .written ≡ 0)
     uses-nothing e =
         let h : T (advances.refused (asAdvance (advancing C))) = rw (same-refusal (advancing C), e) tt in
         let t = subst (λ (Xs : List AdvanceCall). RefusedUntouched (As Xs) (beginOf q)) among (ran .kept .one-run .untouched) in
         let u = untouched-at (beginOf q) before C after t h in
         (u .used, u .written)
 
-    leaves-each-byte : C .gave .report ≡ refusedNumber →
+    leaves-each-byte : C .gave ≡ refusedNumber →
         (advancing C .savedLeft ≡ advancing C .saved) × (advancing C .bufferLeft ≡ advancing C .buffer) × (advancing C .logLeft ≡ advancing C .log)
     leaves-each-byte e =
         let h : T (saysRefused (advancing C)) = rw e tt in
         (exact .refused-saved h, exact .refused-buffer h, exact .refused-log h)
 
-    past-its-entries : drop (8 * C .gave .written) (advancing C .logLeft) ≡ drop (8 * C .gave .written) (advancing C .log)
+    past-its-entries : drop (8 * answerOf (advancing C) .written) (advancing C .logLeft) ≡ drop (8 * answerOf (advancing C) .written) (advancing C .log)
     past-its-entries = exact .others
 
   -- the last of the calls, if it was not refused, says the outcome just if the run has ended
@@ -276,45 +275,45 @@ module _ (B : BeginCall) (Cs : List AdvanceCall) (z : B .gave ≡ 0)
     exact-last : ReadExactly (advancing C)
     exact-last = exact before C [] is-last
 
-    says-outcome : T (sameStep (saved .step) Ended) → (C .gave .report ≡ outcomeNumber (saved .outcome)) × (C .gave .value ≡ outcomeValue (saved .outcome))
+    says-outcome : T (sameStep (saved .step) Ended) → (C .gave ≡ outcomeNumber (saved .outcome)) × (answerOf (advancing C) .value ≡ outcomeValue (saved .outcome))
     says-outcome h = go came
       where
-        go : Came q saved buffer (asAdvance (advancing C)) → (C .gave .report ≡ outcomeNumber (saved .outcome)) × (C .gave .value ≡ outcomeValue (saved .outcome))
+        go : Came q saved buffer (asAdvance (advancing C)) → (C .gave ≡ outcomeNumber (saved .outcome)) × (answerOf (advancing C) .value ≡ outcomeValue (saved .outcome))
         go (over _ r) = (exact-last .report ∙ ap reportNumber r, exact-last .value ∙ ap reportValue r)
         go (full m _ _) = absurd (T-not (sameStep (saved .step) Ended) m h)
         go (waiting _ m _ _ _ _) = absurd (T-not (sameStep (saved .step) Ended) m h)
 
-    says-full-or-waiting : T (not (sameStep (saved .step) Ended)) → T (eqb (C .gave .report) fullNumber || eqb (C .gave .report) waitingNumber)
+    says-full-or-waiting : T (not (sameStep (saved .step) Ended)) → T (eqb (C .gave) fullNumber || eqb (C .gave) waitingNumber)
     says-full-or-waiting h = go came
       where
-        go : Came q saved buffer (asAdvance (advancing C)) → T (eqb (C .gave .report) fullNumber || eqb (C .gave .report) waitingNumber)
+        go : Came q saved buffer (asAdvance (advancing C)) → T (eqb (C .gave) fullNumber || eqb (C .gave) waitingNumber)
         go (over e _) = absurd (T-not (sameStep (saved .step) Ended) h e)
-        go (full _ _ r) = (let e : C .gave .report ≡ fullNumber = exact-last .report ∙ ap reportNumber r in rw e tt)
-        go (waiting _ _ _ _ _ r) = (let e : C .gave .report ≡ waitingNumber = exact-last .report ∙ ap reportNumber r in rw e tt)
+        go (full _ _ r) = (let e : C .gave ≡ fullNumber = exact-last .report ∙ ap reportNumber r in rw e tt)
+        go (waiting _ _ _ _ _ r) = (let e : C .gave ≡ waitingNumber = exact-last .report ∙ ap reportNumber r in rw e tt)
 
     -- full: every place of its log is used; waiting: a place is left, every answer is used, and the next access is a read of the
     -- register that is named
-    says-full : C .gave .report ≡ fullNumber → C .gave .written ≡ length (advancing C .log) / 8
+    says-full : C .gave ≡ fullNumber → answerOf (advancing C) .written ≡ length (advancing C .log) / 8
     says-full e = go came
       where
-        go : Came q saved buffer (asAdvance (advancing C)) → C .gave .written ≡ length (advancing C .log) / 8
+        go : Came q saved buffer (asAdvance (advancing C)) → answerOf (advancing C) .written ≡ length (advancing C .log) / 8
         go (over _ r) = (let r′ : Full ≡ Over (saved .outcome) = rw e at r in let z : _≡_ {A = ℕ} 0 1 = cc in absurd (omega arith))
         go (full _ w _) = omega (arith, in-words (advancing C .log))
         go (waiting k _ _ _ _ r) = (let r′ : Full ≡ Waiting k = rw e at r in let z : _≡_ {A = ℕ} 0 1 = cc in absurd (omega arith))
 
-    says-waiting : C .gave .report ≡ waitingNumber →
-        (C .gave .written < length (advancing C .log) / 8) × (C .gave .used ≡ length (advancing C .answers) / 4)
-        × Awaits (nextOf (accessOf q buffer saved)) (C .gave .awaited)
+    says-waiting : C .gave ≡ waitingNumber →
+        (answerOf (advancing C) .written < length (advancing C .log) / 8) × (answerOf (advancing C) .used ≡ length (advancing C .answers) / 4)
+        × Awaits (nextOf (accessOf q buffer saved)) (answerOf (advancing C) .awaited)
     says-waiting e = go came
       where
         go : Came q saved buffer (asAdvance (advancing C)) →
-            (C .gave .written < length (advancing C .log) / 8) × (C .gave .used ≡ length (advancing C .answers) / 4)
-            × Awaits (nextOf (accessOf q buffer saved)) (C .gave .awaited)
+            (answerOf (advancing C) .written < length (advancing C .log) / 8) × (answerOf (advancing C) .used ≡ length (advancing C .answers) / 4)
+            × Awaits (nextOf (accessOf q buffer saved)) (answerOf (advancing C) .awaited)
         go (over _ r) =
-            (let r′ : Waiting (registerIn registers (C .gave .awaited)) ≡ Over (saved .outcome) = rw e at r in
+            (let r′ : Waiting (registerIn registers (answerOf (advancing C) .awaited)) ≡ Over (saved .outcome) = rw e at r in
             let z : _≡_ {A = ℕ} 0 1 = cc in absurd (omega arith))
         go (full _ _ r) =
-            (let r′ : Waiting (registerIn registers (C .gave .awaited)) ≡ Full = rw e at r in
+            (let r′ : Waiting (registerIn registers (answerOf (advancing C) .awaited)) ≡ Full = rw e at r in
             let z : _≡_ {A = ℕ} 0 1 = cc in absurd (omega arith))
         go (waiting k _ w h u r) = (
           omega (arith, in-words (advancing C .log)),
@@ -325,11 +324,11 @@ module _ (B : BeginCall) (Cs : List AdvanceCall) (z : B .gave ≡ 0)
 -- after a begin that returned a refusal's number
 abbrev Refusals : List AdvanceCall → Type 0
 Refusals [] = Unit {0}
-Refusals (C ∷ Cs) = (C .gave .report ≡ refusedNumber) × Refusals Cs
+Refusals (C ∷ Cs) = (C .gave ≡ refusedNumber) × Refusals Cs
 
 same-refusals : (Cs : List AdvanceCall) → AllRefused (As Cs) → Refusals Cs
 same-refusals [] h = tt
-same-refusals (C ∷ Cs) h = (eqb→eq (C .gave .report) refusedNumber (rw (same-refusal (advancing C)) at (h .0)), same-refusals Cs (h .1))
+same-refusals (C ∷ Cs) h = (eqb→eq (C .gave) refusedNumber (rw (same-refusal (advancing C)) at (h .0)), same-refusals Cs (h .1))
 
 no-answers : (Cs : List AdvanceCall) (s : SavedCall) → AllRefused (As Cs) → RefusedUntouched (As Cs) s → answersUsed Cs ≡ []
 no-answers [] s h u = refl

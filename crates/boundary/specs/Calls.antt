@@ -3,7 +3,7 @@ use Prim.Native.Nat.{ℕ, _+_, _*_, _/_}
 use mathlib.Core.Bool.{Bool, true, false, cond, not, _||_}
 use mathlib.Core.List.{List, [], _∷_, _++_}
 use lib.Dec.{eqb}
-use lib.ListN.{length, take, drop}
+use lib.ListN.{length, getD, take, drop}
 use Rattle.registers.specs.Map.{offsetOf}
 use Rattle.words.specs.Words.{wordsIn, bytesOf}
 use Rattle.address_words.specs.Words.{modeOf, configIn}
@@ -19,14 +19,30 @@ use Rattle.calls.specs.declared.Configuration.the-variants.{Unconfigured, Confi
 use Rattle.calls.specs.declared.Description.{Description}
 use Rattle.calls.specs.declared.Next.{Next}
 use Rattle.calls.specs.declared.Next.the-variants.{Over, Read, Write, Refused}
+use Rattle.calls.specs.declared.Report.{Report}
 use Rattle.calls.specs.declared.Verdict.{Verdict}
 use Rattle.calls.specs.declared.Verdict.the-variants.{Accepted, Refused as Rejected}
 use Rattle.driver.specs.Next.{nextFor}
 use Rattle.boundary.specs.declared.call.AccessAnswer.{AccessAnswer}
-use Rattle.boundary.specs.declared.call.AdvanceAnswer.{AdvanceAnswer}
 use Rattle.boundary.specs.declared.call.CallDescription.{CallDescription}
 
--- ---- What is asked. A number that says yes or no says yes if it is not 0.
+-- ---- What is asked: the words of a description. Those after the last named one are not looked at.
+abbrev pub told : List ℕ → CallDescription
+told words =
+    record {
+      call = getD words 0 0;
+      address = getD words 1 0;
+      ten = getD words 2 0;
+      listen = getD words 3 0;
+      timingr = getD words 4 0;
+      configured = getD words 5 0;
+      own = getD words 6 0;
+      «own_ten» = getD words 7 0;
+      secondary = getD words 8 0;
+      mask = getD words 9 0;
+    }
+
+-- a number that says yes or no says yes if it is not 0
 abbrev pub yes : ℕ → Bool
 yes n = not (eqb n 0)
 
@@ -39,8 +55,8 @@ abbrev pub configurationOf : CallDescription → Configuration
 configurationOf a =
     cond (hasConfiguration (a .call) (a .configured)) (Configured (configIn (a .own) (a .«own_ten») (a .secondary) (a .mask))) Unconfigured
 
-abbrev pub descriptionOf : CallDescription → Description
-descriptionOf a =
+abbrev pub describedBy : CallDescription → Description
+describedBy a =
     record {
       call = a .call;
       address = a .address;
@@ -49,6 +65,9 @@ descriptionOf a =
       config = configurationOf a;
       mode = modeOf (yes (a .ten));
     }
+
+abbrev pub descriptionOf : List ℕ → Description
+descriptionOf words = describedBy (told words)
 
 -- Of an operation list 65 words are read: more than 64 are refused, whatever follows.
 abbrev pub operationsIn : List ℕ → List ℕ
@@ -86,16 +105,31 @@ accessAnswer (Refused why) = kindAndValue 3 (refusalNumber why)
 abbrev pub accessIn : Description → List ℕ → List ℕ → List ℕ → AccessAnswer
 accessIn d ops saved b = accessAnswer (nextFor d ops (savedIn saved) b)
 
--- ---- Advance: its report by document 01's numbers, and for `waiting` the offset of the register whose word is awaited. A refused
--- one leaves all bytes as they were. A place of the log is eight bytes; its entries stand first, the other bytes are as they were.
+-- ---- Advance: its report by document 01's numbers, and four numbers more. A refused one leaves all bytes as they were. A place of
+-- the log is eight bytes; its entries stand first, the other bytes are as they were.
+pub record Answer : Type 0 where
+  pub value : ℕ
+  -- for `waiting` the offset of the register whose word is awaited
+  pub awaited : ℕ
+  -- answers, in words, and entries
+  pub used : ℕ
+  pub written : ℕ
+
+abbrev pub numbersOf : Answer → List ℕ
+numbersOf a = a .value ∷ a .awaited ∷ a .used ∷ a .written ∷ []
+
+abbrev pub answerFor : Report → ℕ → ℕ → Answer
+answerFor r used written = record { value = reportValue r; awaited = awaitedOf r; used = used; written = written }
+
 pub record AdvanceLeft : Type 0 where
-  pub answer : AdvanceAnswer
+  pub report : ℕ
+  pub answer : List ℕ
   pub saved : List ℕ
   pub buffer : List ℕ
   pub log : List ℕ
 
-abbrev pub asAdvanceLeft : AdvanceAnswer → List ℕ → List ℕ → List ℕ → AdvanceLeft
-asAdvanceLeft a saved b log = record { answer = a; saved = saved; buffer = b; log = log }
+abbrev pub asAdvanceLeft : ℕ → List ℕ → List ℕ → List ℕ → List ℕ → AdvanceLeft
+asAdvanceLeft report answer saved b log = record { report = report; answer = answer; saved = saved; buffer = b; log = log }
 
 abbrev pub logAfter : List Entry → List ℕ → List ℕ
 logAfter es log = bytesOf (wordsOf es) ++ drop (8 * length es) log
@@ -103,14 +137,8 @@ logAfter es log = bytesOf (wordsOf es) ++ drop (8 * length es) log
 abbrev pub advanceLeftBy : Run → List ℕ → List ℕ → AdvanceLeft
 advanceLeftBy R saved log =
     record {
-      answer =
-          record {
-            report = reportNumber (R .report);
-            value = reportValue (R .report);
-            awaited = awaitedOf (R .report);
-            used = R .used;
-            written = length (R .entries);
-          };
+      report = reportNumber (R .report);
+      answer = numbersOf (answerFor (R .report) (R .used) (length (R .entries)));
       saved = cond (isRefusal (R .report)) saved (writtenTo saved (R .saved));
       buffer = R .buffer;
       log = logAfter (R .entries) log;

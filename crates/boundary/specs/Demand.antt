@@ -3,7 +3,7 @@
 use Prim.Native.Nat.{ℕ, _-_, _*_}
 use mathlib.Core.Path.{_≡_}
 use mathlib.Core.Bool.{Bool, cond, not}
-use mathlib.Core.List.{List, [], _∷_, map}
+use mathlib.Core.List.{List, [], _∷_, _++_, map}
 use lib.Dec.{T, eqb}
 use lib.ListN.{length, getD, take, drop}
 use Rattle.registers.specs.Map.{offsetOf}
@@ -16,22 +16,19 @@ use Rattle.calls.specs.Outcomes.{refusedNumber, reportNumber, reportValue, awai
 use Rattle.calls.specs.Refusals.{requestOf}
 use Rattle.calls.specs.Steps.{beginOf}
 use Rattle.calls.specs.declared.Call.{Call}
-use Rattle.calls.specs.declared.Outcome.the-variants.{Done, Bus, Arbitration, Nack, Stopped, ExpectedWrite, ExpectedRead, EventRead, EventWrite, EventStop}
 use Rattle.calls.specs.declared.Refusal.{Refusal}
 use Rattle.calls.specs.declared.Refusal.the-variants.{Address, Long, List as BadList, Buffer, NoSuchCall, SavedCall as BadSavedCall}
 use Rattle.calls.specs.declared.Report.{Report}
 use Rattle.calls.specs.declared.Report.the-variants.{Over, Full, Waiting, Refused}
-use Rattle.saved.specs.Saved.{savedBytes, savedIn}
+use Rattle.saved.specs.Saved.{outcomes, savedBytes, savedIn}
 use Rattle.words.specs.Words.{Below, wordsIn, bytesOf}
-use Rattle.boundary.specs.Calls.{descriptionOf, operationsIn, asBeginLeft, beginLeftIn, asAdvanceLeft, advanceLeftIn}
-use Rattle.boundary.specs.declared.call.AdvanceAnswer.{AdvanceAnswer}
-use Rattle.boundary.specs.declared.call.CallDescription.{CallDescription}
+use Rattle.boundary.specs.Calls.{told, descriptionOf, operationsIn, asBeginLeft, beginLeftIn, Answer, asAdvanceLeft, advanceLeftIn}
 
 -- ---- Calls that came back: what each was lent, what it returned, the lent bytes as it left them, and what its contract says
 -- of that.
 
 pub record BoundaryBegin : Type 0 where
-  pub description : CallDescription
+  pub description : List ℕ
   pub operations : List ℕ
   pub buffer : List ℕ
   pub saved : List ℕ
@@ -40,34 +37,42 @@ pub record BoundaryBegin : Type 0 where
   pub contract : asBeginLeft refusal savedLeft ≡ beginLeftIn (descriptionOf description) (operationsIn operations) (length buffer) saved
 
 pub record BoundaryAdvance : Type 0 where
-  pub description : CallDescription
+  pub description : List ℕ
   pub operations : List ℕ
   pub saved : List ℕ
   pub buffer : List ℕ
   pub answers : List ℕ
   pub log : List ℕ
-  pub answer : AdvanceAnswer
+  pub report : ℕ
+  pub answer : List ℕ
   pub savedLeft : List ℕ
   pub bufferLeft : List ℕ
   pub logLeft : List ℕ
-  pub contract : asAdvanceLeft answer savedLeft bufferLeft logLeft ≡ advanceLeftIn (descriptionOf description) (operationsIn operations) saved buffer answers log
+  pub contract : asAdvanceLeft report answer savedLeft bufferLeft logLeft ≡ advanceLeftIn (descriptionOf description) (operationsIn operations) saved buffer answers log
   pub buffer-bytes : Below 256 buffer
   pub answer-bytes : Below 256 answers
 
 -- it reported `refused`, the twelfth of document 01's outcome words
 abbrev pub saysRefused : BoundaryAdvance → Bool
-saysRefused C = eqb (C .answer .report) refusedNumber
+saysRefused C = eqb (C .report) refusedNumber
+
+-- the four numbers that it left
+abbrev pub answerIn : List ℕ → Answer
+answerIn numbers = record { value = getD numbers 0 0; awaited = getD numbers 1 0; used = getD numbers 2 0; written = getD numbers 3 0 }
+
+abbrev pub answerOf : BoundaryAdvance → Answer
+answerOf C = answerIn (C .answer)
 
 -- ---- What goes from one advance to the next (same section: demand 3 is one statement on the whole list of advances). Each is
 -- handed the saved bytes as the last call left them. An accepted one is lent the begun description d, the begun operations ops,
 -- and the buffer b as the last accepted one left it; a refused one may be lent any others.
-pub record BytesHanded (d : CallDescription) (ops s b : List ℕ) (C : BoundaryAdvance) : Type 0 where
+pub record BytesHanded (d ops s b : List ℕ) (C : BoundaryAdvance) : Type 0 where
   pub saved : C .saved ≡ s
   pub description : T (not (saysRefused C)) → C .description ≡ d
   pub operations : T (not (saysRefused C)) → C .operations ≡ ops
   pub buffer : T (not (saysRefused C)) → C .buffer ≡ b
 
-abbrev pub BytesInTurn : CallDescription → List ℕ → List ℕ → List ℕ → List BoundaryAdvance → Type 0
+abbrev pub BytesInTurn : List ℕ → List ℕ → List ℕ → List ℕ → List BoundaryAdvance → Type 0
 BytesInTurn d ops s b [] = Unit {0}
 BytesInTurn d ops s b (C ∷ Cs) = BytesHanded d ops s b C × BytesInTurn d ops (C .savedLeft) (cond (saysRefused C) b (C .bufferLeft)) Cs
 
@@ -93,12 +98,10 @@ registerIn (r ∷ rs) offset = cond (eqb offset (offsetOf r)) r (registerIn rs o
 -- last. That no other numbers come up is a part of what holds: `ReadExactly`, below.
 abbrev pub reports : ℕ → ℕ → List Report
 reports v awaited =
-    Over (Done v) ∷ Over Bus ∷ Over Arbitration ∷ Over Nack ∷ Over Stopped ∷ Over ExpectedWrite ∷ Over ExpectedRead
-    ∷ Over (EventRead v) ∷ Over (EventWrite v) ∷ Over EventStop
-    ∷ Waiting (registerIn registers awaited) ∷ Refused (getD refusals (v - 8) BadSavedCall) ∷ Full ∷ []
+    map Over (outcomes v) ++ Waiting (registerIn registers awaited) ∷ Refused (getD refusals (v - 8) BadSavedCall) ∷ Full ∷ []
 
-abbrev pub reportIn : AdvanceAnswer → Report
-reportIn a = getD (reports (a .value) (a .awaited)) (a .report) Full
+abbrev pub reportIn : ℕ → Answer → Report
+reportIn report a = getD (reports (a .value) (a .awaited)) report Full
 
 -- so it is an advance as demand 3 speaks of one
 abbrev pub asAdvance : BoundaryAdvance → Advance
@@ -111,10 +114,10 @@ asAdvance C =
       log = wordsIn (C .log);
       result =
           record {
-            used = C .answer .used;
-            written = C .answer .written;
+            used = answerOf C .used;
+            written = answerOf C .written;
             saved = savedIn (C .savedLeft);
-            report = reportIn (C .answer);
+            report = reportIn (C .report) (answerOf C);
           };
       bufferLeft = C .bufferLeft;
       logLeft = wordsIn (C .logLeft);
@@ -129,7 +132,7 @@ requestIn B c = requestOf c (descriptionOf (B .description)) (operationsIn (B .o
 -- with all that demand 3 says of that.
 pub record Ran (B : BoundaryBegin) (As : List Advance) : Type 0 where
   pub call : Call
-  pub named : callNumber call ≡ B .description .call
+  pub named : callNumber call ≡ told (B .description) .call
   pub begun : B .savedLeft ≡ savedBytes (beginOf (requestIn B call))
   pub kept : Kept (requestIn B call) (B .buffer) As
 
@@ -137,11 +140,11 @@ pub record Ran (B : BoundaryBegin) (As : List Advance) : Type 0 where
 -- saved call are those of the words and of the saved call. The log's other bytes are as they were, and a refused advance
 -- leaves every byte as it was.
 pub record ReadExactly (C : BoundaryAdvance) : Type 0 where
-  pub report : C .answer .report ≡ reportNumber (asAdvance C .result .report)
-  pub value : C .answer .value ≡ reportValue (asAdvance C .result .report)
-  pub awaited : C .answer .awaited ≡ awaitedOf (asAdvance C .result .report)
-  pub entries : take (8 * C .answer .written) (C .logLeft) ≡ bytesOf (take (2 * C .answer .written) (wordsIn (C .logLeft)))
-  pub others : drop (8 * C .answer .written) (C .logLeft) ≡ drop (8 * C .answer .written) (C .log)
+  pub report : C .report ≡ reportNumber (asAdvance C .result .report)
+  pub value : answerOf C .value ≡ reportValue (asAdvance C .result .report)
+  pub awaited : answerOf C .awaited ≡ awaitedOf (asAdvance C .result .report)
+  pub entries : take (8 * answerOf C .written) (C .logLeft) ≡ bytesOf (take (2 * answerOf C .written) (wordsIn (C .logLeft)))
+  pub others : drop (8 * answerOf C .written) (C .logLeft) ≡ drop (8 * answerOf C .written) (C .log)
   pub saved : T (not (saysRefused C)) → C .savedLeft ≡ savedBytes (savedIn (C .savedLeft))
   pub refused-saved : T (saysRefused C) → C .savedLeft ≡ C .saved
   pub refused-buffer : T (saysRefused C) → C .bufferLeft ≡ C .buffer

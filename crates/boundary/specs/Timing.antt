@@ -1,5 +1,7 @@
 -- What the C boundary gives for the timing's answers. Assumes nothing.
 use Prim.Native.Nat.{ℕ}
+use mathlib.Core.List.{List, [], _∷_}
+use lib.ListN.{getD}
 use Rattle.timing.specs.Refusals.{timingRefusalNumber}
 use Rattle.timing.specs.Timingr.{timingrWord, packOf}
 use Rattle.timing.specs.declared.I2cTiming.{I2cTiming}
@@ -9,7 +11,6 @@ use Rattle.timing.specs.declared.Timed.{Timed}
 use Rattle.timing.specs.declared.Timed.the-variants.{Timing}
 use Rattle.timing.specs.declared.Timed.the-variants.{Refused as NotTimed}
 use Rattle.boundary.specs.declared.TimingAnswer.{TimingAnswer}
-use Rattle.boundary.specs.declared.TimingFields.{TimingFields}
 
 -- A TIMINGR word and refusal 0, or word 0 and document 01's number of the refusal.
 abbrev pub answer : ℕ → ℕ → TimingAnswer
@@ -28,9 +29,16 @@ abbrev pub packedTimed : Timed → TimingAnswer
 packedTimed (Timing t) = packedAnswer (packOf t)
 packedTimed (NotTimed why) = answer (timingRefusalNumber why) 0
 
-abbrev pub timingFrom : ℕ → ℕ → ℕ → ℕ → ℕ → I2cTiming
-timingFrom presc scldel sdadel sclh scll =
-    record { presc = presc; scldel = scldel; sdadel = sdadel; sclh = sclh; scll = scll }
+-- The five fields stand in this order.
+abbrev pub timingIn : List ℕ → I2cTiming
+timingIn fields =
+    record {
+      presc = getD fields 0 0;
+      scldel = getD fields 1 0;
+      sdadel = getD fields 2 0;
+      sclh = getD fields 3 0;
+      scll = getD fields 4 0;
+    }
 
-abbrev pub fieldsFrom : I2cTiming → TimingFields
-fieldsFrom t = record { presc = t .presc; scldel = t .scldel; sdadel = t .sdadel; sclh = t .sclh; scll = t .scll }
+abbrev pub fieldsOf : I2cTiming → List ℕ
+fieldsOf t = t .presc ∷ t .scldel ∷ t .sdadel ∷ t .sclh ∷ t .scll ∷ []

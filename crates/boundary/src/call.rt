@@ -5,7 +5,7 @@ ghost use lib.Dec.{eqb};
 ghost use lib.ListN.{length};
 ghost use Rattle.calls.specs.Advances.{isRefusal};
 ghost use Rattle.saved.specs.Saved.{savedLength, writtenTo};
-ghost use Rattle.boundary.specs.Calls.{hasConfiguration, configurationOf, descriptionOf, verdictNumber, asBeginLeft, beginLeftIn, accessAnswer, accessIn, asAdvanceLeft, advanceLeftIn};
+ghost use Rattle.boundary.specs.Calls.{told, hasConfiguration, configurationOf, describedBy, descriptionOf, verdictNumber, asBeginLeft, beginLeftIn, accessAnswer, accessIn, numbersOf, answerFor, asAdvanceLeft, advanceLeftIn};
 use calls::Configuration;
 use calls::Description;
 use calls::Next;
@@ -17,7 +17,6 @@ use kinds::report;
 use timing::RawTimingr;
 
 // What is asked, in numbers. A call looks only at those that belong to it.
-#[repr(C)]
 pub struct CallDescription {
     pub call: u32,
     pub address: u32,
@@ -31,20 +30,27 @@ pub struct CallDescription {
     pub mask: u32,
 }
 
-// How an advance came out, in numbers.
-#[repr(C)]
-pub struct AdvanceAnswer {
-    pub report: u32,
-    pub value: u32,
-    pub awaited: u32,
-    pub used: usize,
-    pub written: usize,
-}
-
-#[repr(C)]
 pub struct AccessAnswer {
     pub kind: u32,
     pub value: u32,
+}
+
+// The words of a description by their names.
+fn told(words: &[u32; 16]) -> CallDescription
+    ensures { λ r. ⌜ r ≡ told (now (words .entry)) ⌝ }
+{
+    CallDescription {
+        call: words[0],
+        address: words[1],
+        ten: words[2],
+        listen: words[3],
+        timingr: words[4],
+        configured: words[5],
+        own: words[6],
+        own_ten: words[7],
+        secondary: words[8],
+        mask: words[9],
+    }
 }
 
 // 1 has a configuration where it says so, 2 and 3 always.
@@ -69,8 +75,8 @@ fn configuration(a: CallDescription) -> Configuration
     Configuration::Unconfigured
 }
 
-pub fn describe(a: CallDescription) -> Description
-    ensures { λ r. ⌜ r ≡ descriptionOf a ⌝ }
+fn described_by(a: CallDescription) -> Description
+    ensures { λ r. ⌜ r ≡ describedBy a ⌝ }
 {
     Description {
         call: a.call,
@@ -80,6 +86,12 @@ pub fn describe(a: CallDescription) -> Description
         config: configuration(a),
         mode: address_words::address_mode(a.ten != 0),
     }
+}
+
+pub fn describe(words: &[u32; 16]) -> Description
+    ensures { λ r. ⌜ r ≡ descriptionOf (now (words .entry)) ⌝ }
+{
+    described_by(told(words))
 }
 
 // A place for a saved call has its length.
@@ -146,6 +158,21 @@ fn keep(report: Report, next: SavedCall, saved: &mut [u8])
     saved::write(next, saved);
 }
 
+fn wide(n: u32) -> u64
+    ensures { λ r. ⌜ r ≡ n ⌝ }
+{
+    n as u64
+}
+
+// What an advance leaves besides its report's number, each number in 64 bits on every machine.
+fn answer_for(report: Report, used: usize, written: usize, answer: &mut [u64; 4])
+    ensures { λ _. ⌜ now (answer .exit) ≡ numbersOf (answerFor report used written) ⌝ }
+{
+    let value = wide(report::value(report));
+    let awaited = wide(report::awaited(report));
+    *answer = [value, awaited, used as u64, written as u64];
+}
+
 pub fn advance(
     d: Description,
     ops: &[u32],
@@ -153,19 +180,15 @@ pub fn advance(
     buffer: &mut [u8],
     answers: &[u8],
     log: &mut [u8],
-) -> AdvanceAnswer
-    ensures { λ r. ⌜ asAdvanceLeft r (now (saved .exit)) (now (buffer .exit)) (now (log .exit)) ≡ advanceLeftIn d (now (ops .entry)) (now (saved .entry)) (now (buffer .entry)) (now (answers .entry)) (now (log .entry)) ⌝ }
+    answer: &mut [u64; 4],
+) -> u32
+    ensures { λ r. ⌜ asAdvanceLeft r (now (answer .exit)) (now (saved .exit)) (now (buffer .exit)) (now (log .exit)) ≡ advanceLeftIn d (now (ops .entry)) (now (saved .entry)) (now (buffer .entry)) (now (answers .entry)) (now (log .entry)) ⌝ }
 {
     let call = saved::read(saved);
     let far = advance_bytes::run(call, d, ops, buffer, answers, log);
     let report = far.report;
     let next = far.saved;
     keep(report, next, saved);
-    AdvanceAnswer {
-        report: report::number(report),
-        value: report::value(report),
-        awaited: report::awaited(report),
-        used: far.used,
-        written: far.written,
-    }
+    answer_for(report, far.used, far.written, answer);
+    report::number(report)
 }

@@ -1,4 +1,5 @@
-// The driver for C and Rust callers: functions on numbers and byte slices, under names with a prefix. `compare` and the
+// The driver for C and Rust callers, under names with a prefix: functions on numbers, byte slices and arrays of numbers, so that their
+// signatures mean the same on every machine. `compare` and the
 // firmware link it, and include/huskerivory.h says the same to a C programmer.
 ghost use mathlib.Core.Path.{_≡_};
 ghost use lib.ListN.{length};
@@ -6,11 +7,9 @@ ghost use Rattle.timing.specs.Bands.{timingOf};
 ghost use Rattle.timing.specs.Refusals.{timingRefusalNumber};
 ghost use Rattle.timing.specs.Timingr.{packOf, unpackOf};
 ghost use Rattle.words.specs.Words.{Below};
-ghost use Rattle.boundary.specs.Calls.{descriptionOf, operationsIn, asBeginLeft, beginLeftIn, accessIn, asAdvanceLeft, advanceLeftIn};
-ghost use Rattle.boundary.specs.Timing.{answer, packedAnswer, packedTimed, timedAnswer, timingFrom, fieldsFrom};
-use call::AccessAnswer;
-use call::AdvanceAnswer;
-use call::CallDescription;
+ghost use Rattle.boundary.specs.Abi.{asAbiLeft, abiLeft};
+ghost use Rattle.boundary.specs.Calls.{descriptionOf, operationsIn, asBeginLeft, beginLeftIn, kindAndValue, accessIn, asAdvanceLeft, advanceLeftIn};
+ghost use Rattle.boundary.specs.Timing.{answer, packedAnswer, packedTimed, timedAnswer, timingIn, fieldsOf};
 use timing::I2cTiming;
 use timing::Packed;
 use timing::RawTimingr;
@@ -19,20 +18,20 @@ use timing::TimingRefusal;
 
 mod call;
 
-// A TIMINGR word, or the number of a refusal and word 0.
-#[repr(C)]
-pub struct TimingAnswer {
-    pub refusal: u32,
-    pub timingr: u32,
+// The version of these functions and the sizes that go with it, for a caller to compare with the header that it was built with. A
+// caller that was built for another version knows it by the return value alone.
+#[no_mangle]
+pub extern "C" fn huskerivory_abi(sizes: &mut [u32; 8]) -> u32
+    ensures { λ r. ⌜ asAbiLeft r (now (sizes .exit)) ≡ abiLeft ⌝ }
+{
+    *sizes = [64, saved::LENGTH as u32, 32, 8, 64, 65535, 13, 46];
+    2
 }
 
-#[repr(C)]
-pub struct TimingFields {
-    pub presc: u8,
-    pub scldel: u8,
-    pub sdadel: u8,
-    pub sclh: u8,
-    pub scll: u8,
+// A TIMINGR word, or the number of a refusal and word 0.
+struct TimingAnswer {
+    refusal: u32,
+    timingr: u32,
 }
 
 fn refused(why: TimingRefusal) -> TimingAnswer
@@ -65,47 +64,51 @@ fn timed_answer(t: Timed) -> TimingAnswer
     }
 }
 
+fn tell(a: TimingAnswer, timingr: &mut u32) -> u32
+    ensures { λ r. ⌜ answer r (now (timingr .exit)) ≡ a ⌝ }
+{
+    *timingr = a.timingr;
+    a.refusal
+}
+
 // The TIMINGR word for a kernel clock and a bus frequency in hertz, or one of the refusals 1 to 6.
 #[no_mangle]
-pub extern "C" fn huskerivory_timing(clock: u32, frequency: u32) -> TimingAnswer
-    ensures { λ r. ⌜ r ≡ timedAnswer (timingOf clock frequency) ⌝ }
+pub extern "C" fn huskerivory_timing(clock: u32, frequency: u32, timingr: &mut u32) -> u32
+    ensures { λ r. ⌜ answer r (now (timingr .exit)) ≡ timedAnswer (timingOf clock frequency) ⌝ }
 {
-    timed_answer(timing::calc_timing_params(clock, frequency))
+    tell(
+        timed_answer(timing::calc_timing_params(clock, frequency)),
+        timingr,
+    )
+}
+
+fn timing_in(fields: &[u8; 5]) -> I2cTiming
+    ensures { λ r. ⌜ r ≡ timingIn (now (fields .entry)) ⌝ }
+{
+    I2cTiming {
+        presc: fields[0],
+        scldel: fields[1],
+        sdadel: fields[2],
+        sclh: fields[3],
+        scll: fields[4],
+    }
 }
 
 // The TIMINGR word of five fields, or refusal 7.
 #[no_mangle]
-pub extern "C" fn huskerivory_pack(
-    presc: u8,
-    scldel: u8,
-    sdadel: u8,
-    sclh: u8,
-    scll: u8,
-) -> TimingAnswer
-    ensures { λ r. ⌜ r ≡ packedAnswer (packOf (timingFrom presc scldel sdadel sclh scll)) ⌝ }
+pub extern "C" fn huskerivory_pack(fields: &[u8; 5], timingr: &mut u32) -> u32
+    ensures { λ r. ⌜ answer r (now (timingr .exit)) ≡ packedAnswer (packOf (timingIn (now (fields .entry)))) ⌝ }
 {
-    let t = I2cTiming {
-        presc,
-        scldel,
-        sdadel,
-        sclh,
-        scll,
-    };
-    packed_answer(t.pack())
+    let t = timing_in(fields);
+    tell(packed_answer(t.pack()), timingr)
 }
 
 #[no_mangle]
-pub extern "C" fn huskerivory_unpack(timingr: u32) -> TimingFields
-    ensures { λ r. ⌜ r ≡ fieldsFrom (unpackOf (record { 0 = timingr })) ⌝ }
+pub extern "C" fn huskerivory_unpack(timingr: u32, fields: &mut [u8; 5])
+    ensures { λ _. ⌜ now (fields .exit) ≡ fieldsOf (unpackOf (record { 0 = timingr })) ⌝ }
 {
     let t = RawTimingr(timingr).unpack();
-    TimingFields {
-        presc: t.presc,
-        scldel: t.scldel,
-        sdadel: t.sdadel,
-        sclh: t.sclh,
-        scll: t.scll,
-    }
+    *fields = [t.presc, t.scldel, t.sdadel, t.sclh, t.scll];
 }
 
 // Words read from bytes: an operation list, as far as it is looked at.
@@ -118,12 +121,12 @@ fn list() -> [u32; 65]
 // Begins a call. 0, or the number of the refusal.
 #[no_mangle]
 pub extern "C" fn huskerivory_begin(
-    description: CallDescription,
+    description: &[u32; 16],
     operations: &[u8],
     buffer: &[u8],
     saved: &mut [u8],
 ) -> u32
-    ensures { λ r. ⌜ asBeginLeft r (now (saved .exit)) ≡ beginLeftIn (descriptionOf description) (operationsIn (now (operations .entry))) (length (now (buffer .entry))) (now (saved .entry)) ⌝ }
+    ensures { λ r. ⌜ asBeginLeft r (now (saved .exit)) ≡ beginLeftIn (descriptionOf (now (description .entry))) (operationsIn (now (operations .entry))) (length (now (buffer .entry))) (now (saved .entry)) ⌝ }
 {
     let d = call::describe(description);
     let mut ops = list();
@@ -135,34 +138,38 @@ pub extern "C" fn huskerivory_begin(
 // holds of lists of advances has nothing to ask.
 #[no_mangle]
 pub extern "C" fn huskerivory_advance(
-    description: CallDescription,
+    description: &[u32; 16],
     operations: &[u8],
     saved: &mut [u8],
     buffer: &mut [u8],
     answers: &[u8],
     log: &mut [u8],
-) -> AdvanceAnswer
-    ensures { λ r. ⌜ asAdvanceLeft r (now (saved .exit)) (now (buffer .exit)) (now (log .exit)) ≡ advanceLeftIn (descriptionOf description) (operationsIn (now (operations .entry))) (now (saved .entry)) (now (buffer .entry)) (now (answers .entry)) (now (log .entry)) ⌝ }
+    answer: &mut [u64; 4],
+) -> u32
+    ensures { λ r. ⌜ asAdvanceLeft r (now (answer .exit)) (now (saved .exit)) (now (buffer .exit)) (now (log .exit)) ≡ advanceLeftIn (descriptionOf (now (description .entry))) (operationsIn (now (operations .entry))) (now (saved .entry)) (now (buffer .entry)) (now (answers .entry)) (now (log .entry)) ⌝ }
     ensures bytes { λ _. ⌜ Below 256 (now (buffer .entry)) × Below 256 (now (answers .entry)) ⌝ }
 {
     let d = call::describe(description);
     let mut ops = list();
     let n = words::decode(operations, &mut ops);
-    call::advance(d, &ops[..n], saved, buffer, answers, log)
+    call::advance(d, &ops[..n], saved, buffer, answers, log, answer)
 }
 
 // The access that the next advance makes first.
 #[no_mangle]
 pub extern "C" fn huskerivory_next(
-    description: CallDescription,
+    description: &[u32; 16],
     operations: &[u8],
     saved: &[u8],
     buffer: &[u8],
-) -> AccessAnswer
-    ensures { λ r. ⌜ r ≡ accessIn (descriptionOf description) (operationsIn (now (operations .entry))) (now (saved .entry)) (now (buffer .entry)) ⌝ }
+    value: &mut u32,
+) -> u32
+    ensures { λ r. ⌜ kindAndValue r (now (value .exit)) ≡ accessIn (descriptionOf (now (description .entry))) (operationsIn (now (operations .entry))) (now (saved .entry)) (now (buffer .entry)) ⌝ }
 {
     let d = call::describe(description);
     let mut ops = list();
     let n = words::decode(operations, &mut ops);
-    call::next(d, &ops[..n], saved, buffer)
+    let access = call::next(d, &ops[..n], saved, buffer);
+    *value = access.value;
+    access.kind
 }

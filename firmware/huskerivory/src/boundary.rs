@@ -2,7 +2,7 @@
 //! code of this crate.
 #![allow(unsafe_code)]
 
-use core::mem::size_of_val;
+use core::mem::{size_of, size_of_val};
 
 use crate::{
     Description, Error, I2cTiming, Operation, Outcome, RawTimingr, Refusal, SavedCall, TargetEvent,
@@ -52,92 +52,121 @@ pub struct Advance {
     pub written: usize,
 }
 
+/// What an advance leaves besides its report, each number in 64 bits on every machine.
 #[repr(C)]
-struct Accessed {
-    kind: u32,
-    value: u32,
-}
-
-#[repr(C)]
+#[derive(Default)]
 struct Advanced {
-    report: u32,
-    value: u32,
-    awaited: u32,
-    used: usize,
-    written: usize,
+    value: u64,
+    awaited: u64,
+    used: u64,
+    written: u64,
 }
 
-#[repr(C)]
-struct TimingAnswer {
-    refusal: u32,
-    timingr: u32,
-}
+/// The version that this module was written for.
+const ABI: u32 = 2;
 
+/// The sizes that it was written for, in the header's order: bytes of a description, of a saved
+/// call, of what an advance leaves and of a log entry; operations and buffer bytes at most; how many
+/// reports and steps there are.
+const SIZES: [u32; 8] = [
+    size_of::<Description>() as u32,
+    SavedCall::LENGTH as u32,
+    size_of::<Advanced>() as u32,
+    size_of::<Entry>() as u32,
+    64,
+    65_535,
+    13,
+    46,
+];
+
+// Lengths are 64 bits wide on every machine.
 extern "C" {
+    fn huskerivory_abi(sizes: *mut [u32; 8]) -> u32;
+
     fn huskerivory_begin(
-        description: Description,
+        description: *const Description,
         operations: *const u8,
-        operations_len: usize,
+        operations_len: u64,
         buffer: *const u8,
-        buffer_len: usize,
+        buffer_len: u64,
         saved: *mut u8,
-        saved_len: usize,
+        saved_len: u64,
     ) -> u32;
 
     fn huskerivory_next(
-        description: Description,
+        description: *const Description,
         operations: *const u8,
-        operations_len: usize,
+        operations_len: u64,
         saved: *const u8,
-        saved_len: usize,
+        saved_len: u64,
         buffer: *const u8,
-        buffer_len: usize,
-    ) -> Accessed;
+        buffer_len: u64,
+        value: *mut u32,
+    ) -> u32;
 
     fn huskerivory_advance(
-        description: Description,
+        description: *const Description,
         operations: *const u8,
-        operations_len: usize,
+        operations_len: u64,
         saved: *mut u8,
-        saved_len: usize,
+        saved_len: u64,
         buffer: *mut u8,
-        buffer_len: usize,
+        buffer_len: u64,
         answers: *const u8,
-        answers_len: usize,
+        answers_len: u64,
         log: *mut u8,
-        log_len: usize,
-    ) -> Advanced;
+        log_len: u64,
+        answer: *mut Advanced,
+    ) -> u32;
 
-    fn huskerivory_timing(clock: u32, frequency: u32) -> TimingAnswer;
-    fn huskerivory_pack(presc: u8, scldel: u8, sdadel: u8, sclh: u8, scll: u8) -> TimingAnswer;
-    fn huskerivory_unpack(timingr: u32) -> I2cTiming;
+    fn huskerivory_timing(clock: u32, frequency: u32, timingr: *mut u32) -> u32;
+    fn huskerivory_pack(fields: *const I2cTiming, timingr: *mut u32) -> u32;
+    fn huskerivory_unpack(timingr: u32, fields: *mut I2cTiming);
 }
 
-// SAFETY, of the three that take slices: each pointer comes from a slice or an array with its size
-// in bytes, so that it is not null and its bytes are readable; what is written through comes from a
-// `&mut`, which overlaps nothing else, and takes any bytes (`SavedCall`, `Entry` and the buffer are
-// bytes). `Operation` is four bytes. The library keeps no pointer.
+/// Whether the library that is linked is the one that this module was written for. Every way into
+/// the library asks it first; an advance is made only of a call for which `next` did.
+fn known() -> Result<(), Refusal> {
+    let mut sizes = [0; 8];
+    // SAFETY: it writes eight numbers, which `sizes` has.
+    let version = unsafe { huskerivory_abi(&mut sizes) };
+    match version == ABI && sizes == SIZES {
+        true => Ok(()),
+        false => Err(Refusal::LIBRARY),
+    }
+}
+
+fn bytes_of<T>(slice: &[T]) -> u64 {
+    size_of_val(slice) as u64
+}
+
+// SAFETY, of the three that take slices: each pointer comes from a slice, an array or a local with
+// its size in bytes, so that it is not null and its bytes are readable; what is written through
+// comes from a `&mut`, which overlaps nothing else, and takes any bytes (`SavedCall`, `Entry` and
+// the buffer are bytes, `Advanced` is numbers). `Operation` is four bytes. The library keeps no
+// pointer.
 
 pub fn begin(
     description: Description,
     operations: &[Operation],
     buffer: &[u8],
 ) -> Result<SavedCall, Refusal> {
+    known()?;
     let mut saved = SavedCall::NONE;
     let refusal = unsafe {
         huskerivory_begin(
-            description,
+            &description,
             operations.as_ptr().cast(),
-            size_of_val(operations),
+            bytes_of(operations),
             buffer.as_ptr(),
-            buffer.len(),
+            bytes_of(buffer),
             saved.0.as_mut_ptr(),
-            saved.0.len(),
+            bytes_of(&saved.0),
         )
     };
     match refusal {
         0 => Ok(saved),
-        _ => Err(Refusal(refusal)),
+        number => Err(Refusal(number)),
     }
 }
 
@@ -147,22 +176,26 @@ pub fn next(
     saved: &SavedCall,
     buffer: &[u8],
 ) -> Result<Next, Refusal> {
-    let accessed = unsafe {
+    known()?;
+    let mut value = 0;
+    let kind = unsafe {
         huskerivory_next(
-            description,
+            &description,
             operations.as_ptr().cast(),
-            size_of_val(operations),
+            bytes_of(operations),
             saved.0.as_ptr(),
-            saved.0.len(),
+            bytes_of(&saved.0),
             buffer.as_ptr(),
-            buffer.len(),
+            bytes_of(buffer),
+            &mut value,
         )
     };
-    match accessed.kind {
+    match kind {
         0 => Ok(Next::Over),
-        1 => Ok(Next::Read(accessed.value)),
+        1 => Ok(Next::Read(value)),
         2 => Ok(Next::Write),
-        _ => Err(Refusal(accessed.value)),
+        3 => Err(Refusal(value)),
+        _ => Err(Refusal::LIBRARY),
     }
 }
 
@@ -176,29 +209,35 @@ pub fn advance(
     log: &mut [Entry],
 ) -> Advance {
     let word = answer.unwrap_or(0).to_le_bytes();
-    let advanced = unsafe {
+    let answers = if answer.is_some() { &word[..] } else { &[] };
+    let mut left = Advanced::default();
+    let number = unsafe {
         huskerivory_advance(
-            description,
+            &description,
             operations.as_ptr().cast(),
-            size_of_val(operations),
+            bytes_of(operations),
             saved.0.as_mut_ptr(),
-            saved.0.len(),
+            bytes_of(&saved.0),
             buffer.as_mut_ptr(),
-            buffer.len(),
-            word.as_ptr(),
-            if answer.is_some() { word.len() } else { 0 },
+            bytes_of(buffer),
+            answers.as_ptr(),
+            bytes_of(answers),
             log.as_mut_ptr().cast(),
-            size_of_val(log),
+            bytes_of(log),
+            &mut left,
         )
     };
+    // What is cut here is 0: value and offset are words of 32 bits, and no more answers are used
+    // and entries written than the slices have.
     Advance {
-        report: report(advanced.report, advanced.value, advanced.awaited),
-        used: advanced.used,
-        written: advanced.written,
+        report: report(number, left.value as u32, left.awaited as u32),
+        used: left.used as usize,
+        written: left.written as usize,
     }
 }
 
-/// Document 01's outcomes by their numbers; 11 is `refused`, and there are no others.
+/// Document 01's outcomes by their numbers, then the three other reports. There are no more: the
+/// library has said how many it knows.
 fn report(report: u32, value: u32, awaited: u32) -> Report {
     let address = value as u16;
     Report::Over(match report {
@@ -213,28 +252,67 @@ fn report(report: u32, value: u32, awaited: u32) -> Report {
         8 => Ok(Outcome::Event(TargetEvent::Write { address })),
         9 => Ok(Outcome::Event(TargetEvent::Stop)),
         10 => return Report::Waiting(awaited),
+        11 => Err(Error::Refused(Refusal(value))),
         12 => return Report::Full,
-        _ => Err(Error::Refused(Refusal(value))),
+        _ => Err(Error::Refused(Refusal::LIBRARY)),
     })
 }
 
-// SAFETY, of the last three: they take and return plain numbers.
+// SAFETY, of the last three: each pointer is that of a local of the size that the library writes or
+// reads, and any bytes are an `I2cTiming`.
 
 pub fn timing(clock: u32, frequency: u32) -> Result<RawTimingr, Refusal> {
-    word(unsafe { huskerivory_timing(clock, frequency) })
+    known()?;
+    let mut timingr = 0;
+    let refusal = unsafe { huskerivory_timing(clock, frequency, &mut timingr) };
+    word(refusal, timingr)
 }
 
-pub fn pack(t: I2cTiming) -> Result<RawTimingr, Refusal> {
-    word(unsafe { huskerivory_pack(t.presc, t.scldel, t.sdadel, t.sclh, t.scll) })
+pub fn pack(fields: I2cTiming) -> Result<RawTimingr, Refusal> {
+    known()?;
+    let mut timingr = 0;
+    let refusal = unsafe { huskerivory_pack(&fields, &mut timingr) };
+    word(refusal, timingr)
 }
 
-pub fn unpack(raw: RawTimingr) -> I2cTiming {
-    unsafe { huskerivory_unpack(raw.0) }
+pub fn unpack(raw: RawTimingr) -> Result<I2cTiming, Refusal> {
+    known()?;
+    let mut fields = I2cTiming::default();
+    unsafe { huskerivory_unpack(raw.0, &mut fields) };
+    Ok(fields)
 }
 
-fn word(answer: TimingAnswer) -> Result<RawTimingr, Refusal> {
-    match answer.refusal {
-        0 => Ok(RawTimingr(answer.timingr)),
+fn word(refusal: u32, timingr: u32) -> Result<RawTimingr, Refusal> {
+    match refusal {
+        0 => Ok(RawTimingr(timingr)),
         number => Err(Refusal(number)),
+    }
+}
+
+#[cfg(test)]
+mod tests {
+    use super::*;
+
+    #[test]
+    fn the_library_is_the_one_that_this_was_written_for() {
+        let mut sizes = [0; 8];
+        let version = unsafe { huskerivory_abi(&mut sizes) };
+        assert_eq!((version, sizes), (ABI, SIZES));
+        assert_eq!(known(), Ok(()));
+        assert_eq!(SIZES, [64, 32, 32, 8, 64, 65_535, 13, 46]);
+    }
+
+    #[test]
+    fn every_report_has_its_own_meaning() {
+        let refused = |number| matches!(number, Report::Over(Err(Error::Refused(_))));
+        for number in 0..SIZES[6] {
+            assert_eq!(refused(report(number, 8, 0)), number == 11);
+        }
+        for number in [SIZES[6], u32::MAX] {
+            let Report::Over(ended) = report(number, 8, 0) else {
+                panic!("{number} is a report");
+            };
+            assert_eq!(ended, Err(Error::Refused(Refusal::LIBRARY)));
+        }
     }
 }

@@ -117,6 +117,8 @@ pub struct Description {
     own_ten: u32,
     secondary: u32,
     mask: u32,
+    /// Not looked at by the library, and 0.
+    reserved: [u32; 6],
 }
 
 /// No secondary address, no mask.
@@ -142,6 +144,7 @@ impl Description {
             own_ten: 0,
             secondary: NONE,
             mask: NONE,
+            reserved: [0; 6],
         }
     }
 
@@ -289,6 +292,7 @@ impl Description {
             own_ten,
             secondary,
             mask,
+            reserved: [0; 6],
         }
     }
 }

@@ -21,14 +21,19 @@ pub enum Error {
     Refused(Refusal),
 }
 
-/// Document 01's number of a refusal.
+/// Document 01's number of a refusal, or [`Refusal::LIBRARY`].
 #[derive(Clone, Copy, Debug, PartialEq, Eq)]
 pub struct Refusal(pub u32);
 
 impl Refusal {
+    /// The library that is linked is not the one that this crate was written for. Nothing was done,
+    /// and no other call will do anything.
+    pub const LIBRARY: Refusal = Refusal(0);
+
     /// Its words in document 01.
     pub const fn words(self) -> &'static str {
         match self.0 {
+            0 => "another library",
             1 => "no speed",
             2 => "clock over",
             3 => "ratio",

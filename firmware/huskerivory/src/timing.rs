@@ -12,15 +12,16 @@ impl RawTimingr {
         boundary::timing(clock, frequency)
     }
 
-    /// Its fields. Bits 24 to 27 belong to none.
-    pub fn unpack(self) -> I2cTiming {
+    /// Its fields. Bits 24 to 27 belong to none. Every word has fields: only
+    /// [`Refusal::LIBRARY`] can come up.
+    pub fn unpack(self) -> Result<I2cTiming, Refusal> {
         boundary::unpack(self)
     }
 }
 
 /// The fields of TIMINGR.
 #[repr(C)]
-#[derive(Clone, Copy, Debug, PartialEq, Eq)]
+#[derive(Clone, Copy, Debug, Default, PartialEq, Eq)]
 pub struct I2cTiming {
     /// The prescaler, up to 15.
     pub presc: u8,

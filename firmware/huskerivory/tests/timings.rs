@@ -27,7 +27,7 @@ fn timings() {
 
 #[test]
 fn packing_undoes_unpacking() {
-    let timing = RawTimingr(0x60FB_1C39).unpack();
+    let timing = RawTimingr(0x60FB_1C39).unpack().unwrap();
     let expected = I2cTiming {
         presc: 6,
         scldel: 15,
@@ -37,13 +37,13 @@ fn packing_undoes_unpacking() {
     };
     assert_eq!(timing, expected);
     assert_eq!(timing.pack(), Ok(RawTimingr(0x60FB_1C39)));
-    let all = RawTimingr(0xFFFF_FFFF).unpack();
+    let all = RawTimingr(0xFFFF_FFFF).unpack().unwrap();
     assert_eq!(all.pack(), Ok(RawTimingr(0xF0FF_FFFF)));
 }
 
 #[test]
 fn wide_fields_are_refused() {
-    let none = RawTimingr(0).unpack();
+    let none = RawTimingr(0).unpack().unwrap();
     for wide in [
         I2cTiming { presc: 16, ..none },
         I2cTiming { scldel: 16, ..none },

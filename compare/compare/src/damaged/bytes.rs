@@ -42,7 +42,7 @@ impl Bytes {
             buffer,
             ..
         } = &mut bytes;
-        rattle::begin(*description, operations, buffer, saved);
+        rattle::begin(description, operations, buffer, saved);
         bytes
     }
 
@@ -98,7 +98,7 @@ impl Bytes {
 
     fn description_word(&mut self, random: &mut Random) -> &mut u32 {
         let it = &mut self.description;
-        match random.up_to(9) {
+        match random.up_to(10) {
             0 => &mut it.call,
             1 => &mut it.address,
             2 => &mut it.ten,
@@ -108,7 +108,8 @@ impl Bytes {
             6 => &mut it.own,
             7 => &mut it.own_ten,
             8 => &mut it.secondary,
-            _ => &mut it.mask,
+            9 => &mut it.mask,
+            _ => &mut it.reserved[random.up_to(5) as usize],
         }
     }
 
@@ -223,7 +224,7 @@ fn any_saved(call: u32, random: &mut Random) -> Vec<u8> {
         [random.of_length(20), u32::MAX][random.up_to(1) as usize],
         outcome,
         value,
-        random.up_to(46),
+        random.up_to(rattle::STEPS),
     ];
     rattle::bytes(&words).to_vec()
 }
@@ -240,5 +241,6 @@ fn any_description(random: &mut Random) -> Description {
         own_ten: random.up_to(1) << 31,
         secondary: any_word(random),
         mask: any_word(random),
+        reserved: [0; 6].map(|_| random.word()),
     }
 }

@@ -3,6 +3,10 @@
 use std::ptr;
 use std::sync::atomic::{AtomicU64, Ordering};
 
+use oracle::Fields;
+
+use crate::rattle::{Description, Left};
+
 const PAGE: usize = 4_096;
 
 // Linux's numbers.
@@ -19,6 +23,18 @@ extern "C" {
     fn write(file: i32, text: *const u8, length: usize) -> isize;
     fn _exit(status: i32) -> !;
 }
+
+/// A struct of numbers of one size, or a number.
+///
+/// # Safety
+///
+/// It has no gaps, and any bytes are one.
+pub unsafe trait Numbers: Copy {}
+
+unsafe impl Numbers for Description {}
+unsafe impl Numbers for Left {}
+unsafe impl Numbers for Fields {}
+unsafe impl Numbers for u32 {}
 
 /// Where one of the slices of a call is lent.
 pub enum Memory {
@@ -52,6 +68,17 @@ impl Memory {
 
     pub fn heap() -> Self {
         Memory::Heap(Box::default())
+    }
+
+    /// Lends numbers, as [`Memory::lend`] does bytes.
+    pub fn lend_numbers<T: Numbers>(&mut self, content: T, to_end: bool) -> &mut T {
+        // SAFETY: such a type has no gaps.
+        let bytes =
+            unsafe { std::slice::from_raw_parts((&raw const content).cast(), size_of::<T>()) };
+        let lent = self.lend(bytes, to_end).as_mut_ptr().cast::<T>();
+        assert!(lent.is_aligned(), "numbers are lent where they cannot lie");
+        // SAFETY: the bytes are those of such a value, and are borrowed.
+        unsafe { &mut *lent }
     }
 
     /// Lends these bytes: up to the guard after them, or from the guard before them on.
@@ -119,5 +146,8 @@ mod tests {
         assert!(bytes.iter().all(|&byte| byte == 4));
         let bytes = memory.lend(&[], true);
         assert_eq!(bytes.as_ptr() as usize % PAGE, 0);
+        let number = memory.lend_numbers(7_u32, true);
+        assert_eq!(*number, 7);
+        assert_eq!((&raw const *number) as usize % PAGE, PAGE - 4);
     }
 }

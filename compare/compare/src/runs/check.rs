@@ -101,7 +101,7 @@ fn whole(lent: &mut Lent, input: Input, uncut: &Uncut) -> Result<Ended, String> 
     begin(lent, input, uncut, shift)?;
     let places = uncut.log.len() + 2;
     let given = rattle::advance(
-        input.description(),
+        &input.description(),
         input.operations(),
         &mut lent.saved,
         lent.buffer.lent(),
@@ -140,7 +140,7 @@ pub fn begin(lent: &mut Lent, input: Input, uncut: &Uncut, shift: usize) -> Resu
     lent.buffer.hold(input.buffer, shift);
     lent.saved = [BLANK; SAVED];
     let given = rattle::begin(
-        input.description(),
+        &input.description(),
         input.operations(),
         lent.buffer.content(),
         &mut lent.saved,
@@ -171,7 +171,7 @@ pub fn next(
     awaited: u32,
 ) -> Result<(), String> {
     let given = rattle::next(
-        input.description(),
+        &input.description(),
         input.operations(),
         &lent.saved,
         lent.buffer.content(),

@@ -97,7 +97,7 @@ impl Cut<'_> {
         let to = from + 4 * answers + random.up_to(3) as usize;
         let length = places * ENTRY + random.up_to(7) as usize;
         let given = rattle::advance(
-            self.input.description(),
+            &self.input.description(),
             self.input.operations(),
             &mut lent.saved,
             lent.buffer.lent(),

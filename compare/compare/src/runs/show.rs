@@ -64,9 +64,9 @@ fn given(case: &Case) -> Run {
     let mut saved = [0; SAVED];
     let mut buffer = case.buffer.clone();
     let mut log = vec![0; (8 * case.answers.len() + 64) * ENTRY];
-    rattle::begin(description, operations, &buffer, &mut saved);
+    rattle::begin(&description, operations, &buffer, &mut saved);
     let given = rattle::advance(
-        description,
+        &description,
         operations,
         &mut saved,
         &mut buffer,

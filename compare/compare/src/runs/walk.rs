@@ -56,7 +56,7 @@ impl<'a> Walk<'a> {
             awaited: 0,
         };
         rattle::begin(
-            walk.description,
+            &walk.description,
             walk.operations,
             walk.buffer,
             &mut begun.saved,
@@ -68,7 +68,7 @@ impl<'a> Walk<'a> {
     fn from(&mut self, before: &Waiting, answer: &[u32]) -> Result<u64, Stop> {
         let mut after = before.clone();
         let given = rattle::advance(
-            self.description,
+            &self.description,
             self.operations,
             &mut after.saved,
             &mut after.buffer,

@@ -98,14 +98,14 @@ impl Wrong {
             kind: NONE_REFUSED,
             value: refusal,
         };
-        let given = rattle::next(description, operations, &self.saved, &self.buffer);
+        let given = rattle::next(&description, operations, &self.saved, &self.buffer);
         same("the next access of a wrong call", next, given)?;
 
         let (saved, buffer) = (self.saved.clone(), self.buffer.clone());
         let answers = lent.answers.content();
         let some = random.up_to(answers.len().min(9) as u32) as usize;
         let given = rattle::advance(
-            description,
+            &description,
             operations,
             &mut self.saved,
             &mut self.buffer,

@@ -24,7 +24,7 @@ huskerivory-advance-spec =
     (λ c. search needs)
     (λ c.
     let advanced = c .before .before .before .before .before .before in
-    let decoded = advanced .before .before .before .before .before .before in
+    let decoded = advanced .before .before .before .before .before .before .before in
     let made = decoded .before .before in
     let described = made .before in
     let entered = described .before .before in

@@ -1,5 +1,6 @@
 -- `huskerivory_pack` meets its contract. Assumes nothing.
 use mathlib.Core.Path.{_∙_, ap}
+use Rattle.timing.specs.Timingr.{packOf}
 use Rattle.boundary.specs.Timing.{packedAnswer}
 use borrow.Author.Needs.{needs}
 use Rattle.boundary.proofs.huskerivory_pack.Statement.{statement}
@@ -11,4 +12,9 @@ huskerivory-pack-spec =
     (tie.spec
     (λ c κs. search needs)
     (λ c κs. search needs)
-    (λ c. c .packed-answer .ensures ∙ ap packedAnswer (c .before .pack .ensures)))
+    (λ c κs. search needs)
+    (λ c κs. search needs)
+    (λ c.
+    let answered = c .before .before in
+    c .tell .ensures ∙ answered .packed-answer .ensures
+    ∙ ap packedAnswer (answered .before .pack .ensures ∙ ap packOf (answered .before .before .timing-in .ensures))))

@@ -19,4 +19,9 @@ huskerivory-timing-spec =
     (tie.spec
     (λ c κs. search needs)
     (λ c κs. search needs)
-    (λ c. c .timed-answer .ensures ∙ ap packedTimed (c .before .calc-timing-params .ensures) ∙ packed (timingOf (c .before .before .args .clock) (c .before .before .args .frequency)) (timing-packs (c .before .before .args .clock) (c .before .before .args .frequency))))
+    (λ c κs. search needs)
+    (λ c.
+    let answered = c .before .before in
+    let a = answered .before .before .args in
+    c .tell .ensures ∙ answered .timed-answer .ensures ∙ ap packedTimed (answered .before .calc-timing-params .ensures)
+    ∙ packed (timingOf (a .clock) (a .frequency)) (timing-packs (a .clock) (a .frequency))))

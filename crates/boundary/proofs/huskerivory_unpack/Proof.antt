@@ -1,6 +1,6 @@
 -- `huskerivory_unpack` meets its contract. Assumes nothing.
 use mathlib.Core.Path.{ap}
-use Rattle.boundary.specs.Timing.{fieldsFrom}
+use Rattle.boundary.specs.Timing.{fieldsOf}
 use borrow.Author.Needs.{needs}
 use Rattle.boundary.proofs.huskerivory_unpack.Statement.{statement}
 use Rattle.boundary.proofs.huskerivory_unpack.Tie as tie
@@ -10,4 +10,4 @@ huskerivory-unpack-spec =
     tie.close
     (tie.spec
     (λ c κs. search needs)
-    (λ c. ap fieldsFrom (c .unpack .ensures)))
+    (λ c. ap fieldsOf (c .before .unpack .ensures)))

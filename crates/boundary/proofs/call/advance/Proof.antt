@@ -21,7 +21,6 @@ advance-spec =
     (λ c κs. search needs)
     (λ c κs. search needs)
     (λ c κs. search needs)
-    (λ c κs. search needs)
     (λ c. search needs)
     (λ c. search needs)
     (λ c. search needs)
@@ -32,4 +31,4 @@ advance-spec =
     let a = read .before .before .before .before .before .before .before .args in
     advances (a .d) (a .ops .now) (a .saved .now) (a .buffer .now) (a .answers .now) (a .log .now) (ran .run .result) _ _
     (ran .run .ensures ∙ ap (λ (s : SavedCall). reachedBy inBytes (runOf (a .d) (a .ops .now) (length (a .log .now) / 8) s (a .buffer .now) (wordsIn (a .answers .now))) (a .log .now)) (read .read .ensures))
-    _ _ _ _ (c .before .before .number .ensures) (c .before .value .ensures) (c .awaited .ensures) (kept .keep .ensures)))
+    _ _ _ (c .number .ensures) (c .before .answer-for .ensures) (kept .keep .ensures)))

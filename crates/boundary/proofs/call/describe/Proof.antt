@@ -9,4 +9,4 @@ describe-spec =
     (tie.spec
     (λ c κs. search needs)
     (λ c κs. search needs)
-    (λ c. rw (c .before .before .configuration .ensures, c .address-mode .ensures)))
+    (λ c. rw (c .described-by .ensures, c .before .told .ensures)))

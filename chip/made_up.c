@@ -1,0 +1,193 @@
+/* Makes calls up, damages some of them, and prints sums over everything that the library said or wrote, at whatever address it
+ * was lent. The same program on another machine has to print the same. */
+#include "huskerivory.h"
+
+#include <stdio.h>
+#include <string.h>
+
+enum { ROUNDS = 50000, SUMS = 10, ADVANCES = 12 };
+
+/* ---- Numbers that are the same on every machine. C leaves open in which order arguments are worked out, so that no expression
+ * here asks for two of them. */
+
+static uint64_t state = 1;
+
+static uint32_t below(uint32_t n) {
+    state = state * 6364136223846793005U + 1442695040888963407U;
+    return (uint32_t)((state >> 32) * n >> 32);
+}
+
+static int once_in(uint32_t n) {
+    return below(n) == 0;
+}
+
+/* Mostly below n, now and then anything. */
+static uint32_t about(uint32_t n) {
+    return once_in(16) ? below(UINT32_MAX) : below(n);
+}
+
+/* ---- Sums */
+
+static uint32_t sum = 1;
+
+static void add_byte(uint8_t byte) {
+    sum = (sum ^ byte) * 16777619U;
+}
+
+static void add_bytes(const uint8_t *bytes, size_t size) {
+    for (size_t i = 0; i < size; i++) {
+        add_byte(bytes[i]);
+    }
+}
+
+static void add_number(uint64_t number) {
+    for (int i = 0; i < 8; i++) {
+        add_byte((uint8_t)(number >> (8 * i)));
+    }
+}
+
+/* ---- What is lent: room for any alignment, and bytes around it that have to stay as they are */
+
+enum { OPERATIONS = 70, BYTES = 700, ANSWERS = 80, PLACES = 90, AROUND = 16 };
+
+typedef struct {
+    uint8_t operations[4 * OPERATIONS + AROUND], buffer[BYTES + AROUND], saved[HUSKERIVORY_SAVED_CALL + AROUND];
+    uint8_t answers[4 * ANSWERS + AROUND], log[HUSKERIVORY_LOG_ENTRY * PLACES + AROUND];
+} memory;
+
+static memory all;
+static huskerivory_description description;
+static uint8_t *operations, *buffer, *saved, *answers, *entries;
+static uint32_t operations_len, buffer_len, saved_len;
+static unsigned reports[13];
+
+static void put_word(uint8_t *bytes, uint32_t word) {
+    for (int i = 0; i < 4; i++) {
+        bytes[i] = (uint8_t)(word >> (8 * i));
+    }
+}
+
+static void lend(void) {
+    uint8_t *bytes = (uint8_t *)&all;
+    for (size_t i = 0; i < sizeof all; i++) {
+        bytes[i] = (uint8_t)below(256);
+    }
+    operations = all.operations + below(8);
+    buffer = all.buffer + below(8);
+    saved = all.saved + below(8);
+    answers = all.answers + below(8);
+    entries = all.log + below(8);
+}
+
+/* ---- A description, its operations and lengths */
+
+static void describe(void) {
+    description.call = once_in(3) ? HUSKERIVORY_CALL_TRANSACTION : 1 + below(30);
+    description.address = about(130);
+    description.ten = once_in(4);
+    description.listen = about(4);
+    description.timingr = below(UINT32_MAX);
+    description.configured = once_in(2);
+    description.own = about(130);
+    description.own_ten = once_in(3);
+    description.secondary = once_in(2) ? HUSKERIVORY_NONE : about(130);
+    description.mask = once_in(2) ? HUSKERIVORY_NONE : about(8);
+    for (int i = 0; i < 6; i++) {
+        description.reserved[i] = about(2);
+    }
+}
+
+static void list_operations(void) {
+    uint32_t most = once_in(20) ? OPERATIONS : 5, count = below(most), total = 0;
+    for (uint32_t i = 0; i < count; i++) {
+        uint32_t longest = once_in(30) ? 260 : 8, word = below(longest);
+        total += word;
+        if (once_in(2)) {
+            word |= HUSKERIVORY_OPERATION_READ;
+        }
+        if (once_in(200)) {
+            word |= 0x20000;
+        }
+        put_word(operations + 4 * i, word);
+    }
+    operations_len = 4 * count + below(4);
+    int as_listed = description.call == HUSKERIVORY_CALL_TRANSACTION && !once_in(20);
+    buffer_len = as_listed ? total : below(600);
+    if (buffer_len > BYTES) {
+        buffer_len = BYTES;
+    }
+    saved_len = once_in(50) ? below(40) : HUSKERIVORY_SAVED_CALL;
+}
+
+/* ---- A round: a call begun and advanced, and a timing */
+
+/* Mostly flags with which a call goes on. */
+static uint32_t answer_word(void) {
+    static const uint32_t flags[] = {0x01, 0x03, 0x03, 0x03, 0x04, 0x05, 0x20, 0x21, 0x80, 0x40, 0x08, 0x10};
+    uint32_t word = flags[below(sizeof flags / sizeof flags[0])];
+    if (once_in(8)) {
+        word |= 1U << below(16);
+    }
+    word |= below(256) << 16; /* DIR and ADDCODE */
+    return once_in(12) ? below(UINT32_MAX) : word;
+}
+
+/* 0 where the call is over. */
+static int advance(void) {
+    uint32_t count = below(ANSWERS), log_len = below(HUSKERIVORY_LOG_ENTRY * PLACES + 1), value;
+    huskerivory_advanced a;
+    for (uint32_t i = 0; i < count; i++) {
+        put_word(answers + 4 * i, answer_word());
+    }
+    if (once_in(40)) {
+        uint32_t byte = below(HUSKERIVORY_SAVED_CALL);
+        saved[byte] ^= (uint8_t)(1U << below(8));
+    }
+    add_number(huskerivory_next(&description, operations, operations_len, saved, saved_len, buffer, buffer_len, &value));
+    add_number(value);
+    uint32_t report = huskerivory_advance(&description, operations, operations_len, saved, saved_len, buffer, buffer_len,
+                                          answers, 4 * count + below(4), entries, log_len, &a);
+    add_number(report);
+    add_number(a.value);
+    add_number(a.awaited);
+    add_number(a.used);
+    add_number(a.written);
+    add_bytes((const uint8_t *)&all, sizeof all);
+    reports[report < 13 ? report : 0]++;
+    return report == HUSKERIVORY_REPORT_WAITING || report == HUSKERIVORY_REPORT_FULL;
+}
+
+static void time_and_pack(void) {
+    uint32_t clock = about(260000000), fastest = once_in(2) ? 1000000 : 9000, timingr;
+    huskerivory_timing_fields fields;
+    add_number(huskerivory_timing(clock, about(fastest), &timingr));
+    add_number(timingr);
+    huskerivory_unpack(below(UINT32_MAX), &fields);
+    add_bytes((const uint8_t *)&fields, sizeof fields);
+    fields.sdadel = (uint8_t)below(18);
+    add_number(huskerivory_pack(&fields, &timingr));
+    add_number(timingr);
+}
+
+static void make_one_up(void) {
+    lend();
+    describe();
+    list_operations();
+    add_number(huskerivory_begin(&description, operations, operations_len, buffer, buffer_len, saved, saved_len));
+    for (int i = 0; i < ADVANCES && advance(); i++) {
+    }
+    time_and_pack();
+}
+
+int main(void) {
+    for (int sums = 1; sums <= SUMS; sums++) {
+        for (int i = 0; i < ROUNDS / SUMS; i++) {
+            make_one_up();
+        }
+        printf("after %d calls %08X\n", sums * (ROUNDS / SUMS), (unsigned)sum);
+    }
+    for (int i = 0; i < 13; i++) {
+        printf("report %d: %u\n", i, reports[i]);
+    }
+    return 0;
+}
