@@ -46,11 +46,14 @@ impl Bytes {
         bytes
     }
 
-    /// What the next call on this is lent: a few of the answers, and a log.
+    /// What the next call on this is lent: some of the answers, and a log.
     pub fn lent(&self, random: &mut Random) -> Self {
-        let some = random.up_to(40) as usize;
+        let some = random.pick(&[40, 40, 40, 300]);
+        let some = random.up_to(some) as usize;
         let answers = &self.answers[..some.min(self.answers.len())];
-        let log = random.up_to(9) as usize * ENTRY + random.up_to(7) as usize;
+        // A long one now and then: the library makes its accesses in pieces of 8 and of 128.
+        let places = random.pick(&[9, 9, 9, 300]);
+        let log = random.up_to(places) as usize * ENTRY + random.up_to(7) as usize;
         let mut lent = self.clone_without_answers();
         lent.answers.extend_from_slice(answers);
         lent.log.resize(log, 0);
