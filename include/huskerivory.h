@@ -20,9 +20,9 @@
  * clears the saved call, so that nothing can be advanced by mistake.
  *
  * Pointers. A slice is a pointer and its length in bytes, which is 64 bits wide on every machine. No pointer is null, not
- * even that of a slice of length 0; one to a struct or a number is aligned as C aligns these. Through pointers without `const` is
- * written: what they point to may overlap nothing else that is lent to the same call. What is only read may overlap what is
- * only read. Nothing is kept: after the return all of it is the caller's again.
+ * even that of a slice of length 0; one to a struct or a number is aligned as C aligns these. Pointers without `const` are
+ * written through: what they point to may overlap nothing else that is lent to the same call. What is only read may overlap
+ * what is only read. Nothing is kept: after the return all of it is the caller's again.
  *
  * Words. Operations, answers, log entries and the saved call are 32-bit words in little-endian bytes, without alignment.
  * Bytes after the last whole word, or after the last whole log entry, are neither read nor written. The numbers of a struct are
@@ -63,7 +63,8 @@ extern "C" {
             HUSKERIVORY_OPERATIONS, HUSKERIVORY_BUFFER, HUSKERIVORY_REPORTS, HUSKERIVORY_STEPS                       \
     }
 
-/* The version of the library that is linked, and its sizes. Where they are not those of this header call nothing else. */
+/* Returns the version of the library that is linked, and leaves its sizes. Where they are not those of this header call nothing
+ * else. */
 uint32_t huskerivory_abi(uint32_t sizes[HUSKERIVORY_ABI_SIZES]);
 
 /* ---- Calls */
@@ -180,7 +181,8 @@ enum {
     HUSKERIVORY_ACCESS_REFUSED = 3 /* none, an advance would be refused */
 };
 
-/* One of these four; `value` is left with the register's offset, or the number of the refusal, else 0. Nothing else is written. */
+/* Returns one of these four, and leaves in `value` the register's offset, or the number of the refusal, else 0. Nothing else is
+ * written. */
 uint32_t huskerivory_next(const huskerivory_description *description,
                           const uint8_t *operations, uint64_t operations_len,
                           const uint8_t *saved, uint64_t saved_len,
@@ -239,13 +241,14 @@ typedef struct {
     uint8_t presc, scldel, sdadel, sclh, scll;
 } huskerivory_timing_fields;
 
-/* The TIMINGR word for a kernel clock and a bus frequency in hertz, and 0; or one of the refusals 1 to 6, and the word is 0. */
+/* Leaves the TIMINGR word for a kernel clock and a bus frequency in hertz and returns 0; or returns one of the refusals 1 to 6 and
+ * leaves 0. */
 uint32_t huskerivory_timing(uint32_t clock, uint32_t frequency, uint32_t *timingr);
 
-/* The TIMINGR word of five fields, and 0; or refusal 7, and the word is 0. */
+/* Leaves the TIMINGR word of five fields and returns 0; or returns refusal 7 and leaves 0. */
 uint32_t huskerivory_pack(const huskerivory_timing_fields *fields, uint32_t *timingr);
 
-/* The fields of a TIMINGR word; bits 24 to 27 belong to none. */
+/* Leaves the fields of a TIMINGR word; bits 24 to 27 belong to none. */
 void huskerivory_unpack(uint32_t timingr, huskerivory_timing_fields *fields);
 
 /* ---- Layout */
