@@ -9,22 +9,6 @@
 #include <stdio.h>
 #include <string.h>
 
-/* ---- Words in bytes, as operations, answers and log entries are */
-
-static void put_word(uint8_t *bytes, uint32_t word) {
-    for (int i = 0; i < 4; i++) {
-        bytes[i] = (uint8_t)(word >> (8 * i));
-    }
-}
-
-static uint32_t get_word(const uint8_t *bytes) {
-    uint32_t word = 0;
-    for (int i = 0; i < 4; i++) {
-        word |= (uint32_t)bytes[i] << (8 * i);
-    }
-    return word;
-}
-
 /* ---- A call, from its beginning to its end */
 
 /* A bus that hangs answers nothing, for ever. The driver then waits, and how long is the firmware's to say: here in polls, on a
@@ -46,9 +30,9 @@ typedef struct {
 /* The log's writes, in their order. Its reads are those that were already made. */
 static void carry_out(const uint8_t *log, uint64_t entries) {
     for (uint64_t i = 0; i < entries; i++, log += HUSKERIVORY_LOG_ENTRY) {
-        uint32_t code = get_word(log);
+        uint32_t code = huskerivory_get_word(log);
         if (code & HUSKERIVORY_LOG_WRITE) {
-            i2c_write(code & ~HUSKERIVORY_LOG_WRITE, get_word(log + 4));
+            i2c_write(code & ~HUSKERIVORY_LOG_WRITE, huskerivory_get_word(log + 4));
         }
     }
 }
@@ -74,7 +58,7 @@ static ending make(call *c) {
                                  c->buffer_len, &awaited) == HUSKERIVORY_ACCESS_READ;
     for (unsigned poll = 0; poll < PATIENCE; poll++) {
         if (reads) {
-            put_word(answer, i2c_read(awaited));
+            huskerivory_put_word(answer, i2c_read(awaited));
         }
         uint32_t report = huskerivory_advance(&c->description, c->operations, c->operations_len, saved, sizeof saved, c->buffer,
                                               c->buffer_len, answer, reads ? sizeof answer : 0, log, sizeof log, &advanced);
@@ -109,7 +93,7 @@ static call to_scoreboard(uint8_t *buffer, uint32_t buffer_len) {
 /* A write of the whole buffer. */
 static ending send(uint8_t *buffer, uint32_t buffer_len) {
     call c = to_scoreboard(buffer, buffer_len);
-    put_word(c.operations, buffer_len);
+    huskerivory_put_word(c.operations, buffer_len);
     c.operations_len = 4;
     return make(&c);
 }
@@ -117,8 +101,8 @@ static ending send(uint8_t *buffer, uint32_t buffer_len) {
 /* A write of the buffer's first byte, a repeated start, and the others read. */
 static ending ask(uint8_t *buffer, uint32_t buffer_len) {
     call c = to_scoreboard(buffer, buffer_len);
-    put_word(c.operations, 1);
-    put_word(c.operations + 4, (buffer_len - 1) | HUSKERIVORY_OPERATION_READ);
+    huskerivory_put_word(c.operations, 1);
+    huskerivory_put_word(c.operations + 4, (buffer_len - 1) | HUSKERIVORY_OPERATION_READ);
     c.operations_len = 8;
     return make(&c);
 }

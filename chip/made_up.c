@@ -61,12 +61,6 @@ static uint8_t *operations, *buffer, *saved, *answers, *entries;
 static uint32_t operations_len, buffer_len, saved_len;
 static unsigned reports[13];
 
-static void put_word(uint8_t *bytes, uint32_t word) {
-    for (int i = 0; i < 4; i++) {
-        bytes[i] = (uint8_t)(word >> (8 * i));
-    }
-}
-
 static void lend(void) {
     uint8_t *bytes = (uint8_t *)&all;
     for (size_t i = 0; i < sizeof all; i++) {
@@ -108,7 +102,7 @@ static void list_operations(void) {
         if (once_in(200)) {
             word |= 0x20000;
         }
-        put_word(operations + 4 * i, word);
+        huskerivory_put_word(operations + 4 * i, word);
     }
     operations_len = 4 * count + below(4);
     int as_listed = description.call == HUSKERIVORY_CALL_TRANSACTION && !once_in(20);
@@ -137,7 +131,7 @@ static int advance(void) {
     uint32_t count = below(ANSWERS), log_len = below(HUSKERIVORY_LOG_ENTRY * PLACES + 1), value;
     huskerivory_advanced a;
     for (uint32_t i = 0; i < count; i++) {
-        put_word(answers + 4 * i, answer_word());
+        huskerivory_put_word(answers + 4 * i, answer_word());
     }
     if (once_in(40)) {
         uint32_t byte = below(HUSKERIVORY_SAVED_CALL);

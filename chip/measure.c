@@ -22,12 +22,8 @@ static uint32_t lent_len, log_len;
 static huskerivory_advanced last;
 static uint32_t report;
 
-static void put_word(uint8_t *bytes, uint32_t word) {
-    memcpy(bytes, &word, sizeof word);
-}
-
 static void answer(uint32_t word) {
-    put_word(answers + 4 * answer_count++, word);
+    huskerivory_put_word(answers + 4 * answer_count++, word);
 }
 
 static void transaction(uint32_t count, uint32_t length, int reads) {
@@ -38,7 +34,7 @@ static void transaction(uint32_t count, uint32_t length, int reads) {
     buffer_len = count * length;
     answer_count = 0;
     for (uint32_t i = 0; i < count; i++) {
-        put_word(operations + 4 * i, reads ? length | HUSKERIVORY_OPERATION_READ : length);
+        huskerivory_put_word(operations + 4 * i, reads ? length | HUSKERIVORY_OPERATION_READ : length);
         answer(ISR_IDLE);
         answer(0); /* CR2: the start was sent */
         for (uint32_t byte = 0; byte < length; byte++) {
@@ -153,7 +149,7 @@ static void expect(const char *name, uint32_t expected) {
 
 static void tell_advance(const char *name, uint32_t word, uint32_t expected) {
     static uint8_t one[4];
-    put_word(one, word);
+    huskerivory_put_word(one, word);
     lent = one;
     lent_len = sizeof one;
     log_len = 8 * HUSKERIVORY_LOG_ENTRY;

@@ -37,20 +37,6 @@ static _Noreturn void fail(const char *what, const char *why) {
     exit(1);
 }
 
-static void put_word(uint8_t *bytes, uint32_t word) {
-    for (int i = 0; i < 4; i++) {
-        bytes[i] = (uint8_t)(word >> (8 * i));
-    }
-}
-
-static uint32_t get_word(const uint8_t *bytes) {
-    uint32_t word = 0;
-    for (int i = 0; i < 4; i++) {
-        word |= (uint32_t)bytes[i] << (8 * i);
-    }
-    return word;
-}
-
 /* ---- A call made with a cut */
 
 static uint32_t least(uint32_t m, uint32_t n) {
@@ -87,7 +73,7 @@ static void make(const call *c, const cut *how, result *r) {
             fail(how->name, "a call that comes to no end");
         }
     }
-    if (get_word(r->saved + 16) != r->entries) {
+    if (huskerivory_get_word(r->saved + 16) != r->entries) {
         fail(how->name, "the saved call counts other accesses");
     }
 }
@@ -101,9 +87,9 @@ static void print(const call *c, const result *r) {
     printf("%u %s %u %u %u\n", (unsigned)c->description.call, words[r->report], (unsigned)r->value, (unsigned)r->used,
            (unsigned)r->entries);
     for (uint32_t i = 0; i < r->entries; i++) {
-        uint32_t code = get_word(r->log + i * HUSKERIVORY_LOG_ENTRY);
+        uint32_t code = huskerivory_get_word(r->log + i * HUSKERIVORY_LOG_ENTRY);
         printf("%c %02X %08X\n", code & HUSKERIVORY_LOG_WRITE ? 'w' : 'r', (unsigned)(code & ~HUSKERIVORY_LOG_WRITE),
-               (unsigned)get_word(r->log + i * HUSKERIVORY_LOG_ENTRY + 4));
+               (unsigned)huskerivory_get_word(r->log + i * HUSKERIVORY_LOG_ENTRY + 4));
     }
     printf("b");
     for (uint32_t i = 0; i < c->buffer_len; i++) {
@@ -169,13 +155,13 @@ static void take_number(const char *name, uint32_t number) {
     if (f != NULL) {
         *f->word = number;
     } else if (strcmp(name, "ops") == 0 && now.operation_count < OPERATIONS) {
-        put_word(now.operations + 4 * now.operation_count++, number);
+        huskerivory_put_word(now.operations + 4 * now.operation_count++, number);
     } else if (strcmp(name, "bytes") == 0 && now.buffer_len < BYTES) {
         now.buffer[now.buffer_len++] = (uint8_t)number;
     } else if (strcmp(name, "zeros") == 0 && number <= BYTES - now.buffer_len) {
         now.buffer_len += number;
     } else if (strcmp(name, "answers") == 0 && now.answer_count < ANSWERS) {
-        put_word(now.answers + 4 * now.answer_count++, number);
+        huskerivory_put_word(now.answers + 4 * now.answer_count++, number);
     } else {
         fail(name, "no such name in calls.txt, or too many of its numbers");
     }

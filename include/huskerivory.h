@@ -67,6 +67,26 @@ extern "C" {
  * else. */
 uint32_t huskerivory_abi(uint32_t sizes[HUSKERIVORY_ABI_SIZES]);
 
+/* ---- Words */
+
+/* A word in four bytes, on every machine and at any alignment: for operations and answers, and to look at a log. These two are
+ * the header's own; the library has no part in them. */
+static inline void huskerivory_put_word(uint8_t *bytes, uint32_t word) {
+    int i;
+    for (i = 0; i < 4; i++) {
+        bytes[i] = (uint8_t)(word >> (8 * i));
+    }
+}
+
+static inline uint32_t huskerivory_get_word(const uint8_t *bytes) {
+    uint32_t word = 0;
+    int i;
+    for (i = 0; i < 4; i++) {
+        word |= (uint32_t)bytes[i] << (8 * i);
+    }
+    return word;
+}
+
 /* ---- Calls */
 
 /* The calls, named after the functions of stm32h5xx-hal. The six from WAIT_FOR_EVENT to WAIT_FOR_STOP have an AutoAck form,

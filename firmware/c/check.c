@@ -63,22 +63,6 @@ static void run_group(const char *name, void (*body)(void)) {
     }
 }
 
-/* ---- Words in bytes */
-
-static void put_word(uint8_t *bytes, uint32_t word) {
-    for (int i = 0; i < 4; i++) {
-        bytes[i] = (uint8_t)(word >> (8 * i));
-    }
-}
-
-static uint32_t get_word(const uint8_t *bytes) {
-    uint32_t word = 0;
-    for (int i = 0; i < 4; i++) {
-        word |= (uint32_t)bytes[i] << (8 * i);
-    }
-    return word;
-}
-
 /* ---- A call with all that is lent to it; its log is that of all its advances, and `used` counts their answers */
 
 enum { PLACES = 520, BLANK = 0xA5 };
@@ -169,7 +153,7 @@ static void make_worked(call *c) {
     c->description.call = worked_file[1];
     c->description.address = worked_file[2];
     c->operations_len = 4 * worked_file[5];
-    put_word(c->operations, worked_file[6]);
+    huskerivory_put_word(c->operations, worked_file[6]);
     c->buffer_len = worked_file[6];
     for (size_t i = 0; i < c->buffer_len; i++) {
         c->buffer[i] = (uint8_t)worked_file[7 + i];
@@ -184,8 +168,8 @@ static void print_call(char *text, size_t size, const call *c, advanced last) {
                                  last.report < 10 ? outcomes[last.report] : "?", (unsigned long)last.answer.value,
                                  (unsigned long)c->used, (unsigned long)c->entries);
     for (size_t i = 0; i < c->entries && at < size; i++) {
-        uint32_t code = get_word(c->log + i * HUSKERIVORY_LOG_ENTRY);
-        uint32_t value = get_word(c->log + i * HUSKERIVORY_LOG_ENTRY + 4);
+        uint32_t code = huskerivory_get_word(c->log + i * HUSKERIVORY_LOG_ENTRY);
+        uint32_t value = huskerivory_get_word(c->log + i * HUSKERIVORY_LOG_ENTRY + 4);
         at += (size_t)snprintf(text + at, size - at, "%c %02lX %08lX\n", code & HUSKERIVORY_LOG_WRITE ? 'w' : 'r',
                                (unsigned long)(code & ~HUSKERIVORY_LOG_WRITE), (unsigned long)value);
     }
@@ -204,16 +188,16 @@ static void check_text(const call *c, advanced last) {
     for (size_t i = c->entries * HUSKERIVORY_LOG_ENTRY; i < sizeof c->log; i++) {
         CHECK(c->log[i] == BLANK);
     }
-    CHECK(get_word(c->saved) == 7);
-    CHECK(get_word(c->saved + 16) == 9);
-    CHECK(get_word(c->saved + 28) == 0);
+    CHECK(huskerivory_get_word(c->saved) == 7);
+    CHECK(huskerivory_get_word(c->saved + 16) == 9);
+    CHECK(huskerivory_get_word(c->saved + 28) == 0);
 }
 
 /* Answers what the next access asks for, as firmware does: a read is made, and its word lent to one advance. */
 static advanced answer_once(call *c, size_t places) {
     uint8_t answer[4];
     next_access access = next(c);
-    put_word(answer, worked_answers[c->used < 5 ? c->used : 4]);
+    huskerivory_put_word(answer, worked_answers[c->used < 5 ? c->used : 4]);
     return advance(c, answer, access.kind == HUSKERIVORY_ACCESS_READ ? sizeof answer : 0, places);
 }
 
@@ -336,7 +320,7 @@ static void check_reserved(void) {
 /* Advances until the call has ended, with all answers that are left and a log of so many places each time. */
 static void run_long(call *c, const uint8_t *answers, size_t answers_len, size_t places) {
     make_worked(c);
-    put_word(c->operations, 255);
+    huskerivory_put_word(c->operations, 255);
     c->buffer_len = 255;
     for (size_t i = 0; i < c->buffer_len; i++) {
         c->buffer[i] = (uint8_t)(i + 1);
@@ -356,13 +340,13 @@ static void check_long(void) {
     static uint8_t answers[4 * 258];
     static call whole, cut;
     for (size_t i = 0; i < 258; i++) {
-        put_word(answers + 4 * i, i == 0 ? 1 : i == 1 ? 0 : i == 257 ? 0x20 : 3);
+        huskerivory_put_word(answers + 4 * i, i == 0 ? 1 : i == 1 ? 0 : i == 257 ? 0x20 : 3);
     }
     run_long(&whole, answers, sizeof answers, PLACES);
     CHECK(whole.used == 258 && whole.entries == 515);
     for (size_t i = 0; i < 255; i++) {
         const uint8_t *entry = whole.log + (4 + 2 * i) * HUSKERIVORY_LOG_ENTRY;
-        CHECK(get_word(entry) == (HUSKERIVORY_LOG_WRITE | 0x28) && get_word(entry + 4) == i + 1);
+        CHECK(huskerivory_get_word(entry) == (HUSKERIVORY_LOG_WRITE | 0x28) && huskerivory_get_word(entry + 4) == i + 1);
     }
     for (size_t i = 0; i < sizeof places / sizeof places[0]; i++) {
         run_long(&cut, answers, sizeof answers, places[i]);
@@ -375,9 +359,9 @@ static void check_bytes_in(void) {
     static call c;
     uint8_t answers[4 * 7];
     make_worked(&c);
-    put_word(c.operations, HUSKERIVORY_OPERATION_READ | 2);
+    huskerivory_put_word(c.operations, HUSKERIVORY_OPERATION_READ | 2);
     for (int i = 0; i < 7; i++) {
-        put_word(answers + 4 * i, read_two[i]);
+        huskerivory_put_word(answers + 4 * i, read_two[i]);
     }
     CHECK(begin(&c) == 0);
     advanced a = advance(&c, answers, sizeof answers, PLACES);
@@ -396,8 +380,8 @@ static void check_addresses(void) {
     CHECK(begin(&c) == 0);
     advanced a = advance(&c, c.operations, 0, PLACES);
     CHECK(a.report == HUSKERIVORY_REPORT_DONE && a.answer.used == 0 && a.answer.written == 2);
-    CHECK(get_word(c.log) == (HUSKERIVORY_LOG_WRITE | 0x08) && get_word(c.log + 4) == 0x84);
-    CHECK(get_word(c.log + 8) == (HUSKERIVORY_LOG_WRITE | 0x0C) && get_word(c.log + 12) == 0x342);
+    CHECK(huskerivory_get_word(c.log) == (HUSKERIVORY_LOG_WRITE | 0x08) && huskerivory_get_word(c.log + 4) == 0x84);
+    CHECK(huskerivory_get_word(c.log + 8) == (HUSKERIVORY_LOG_WRITE | 0x0C) && huskerivory_get_word(c.log + 12) == 0x342);
 }
 
 /* Each event that a target listens to sets its own bit: what `listen` says is read, and no other word. */
@@ -420,7 +404,8 @@ static void check_listen(void) {
         CHECK(access.kind == HUSKERIVORY_ACCESS_READ && access.value == events[i].offset);
         advanced a = advance(&c, none, sizeof none, PLACES);
         CHECK(a.report == HUSKERIVORY_REPORT_DONE && a.answer.used == 1 && a.answer.written == 2);
-        CHECK(get_word(c.log + 8) == (HUSKERIVORY_LOG_WRITE | events[i].offset) && get_word(c.log + 12) == events[i].bit);
+        CHECK(huskerivory_get_word(c.log + 8) == (HUSKERIVORY_LOG_WRITE | events[i].offset));
+        CHECK(huskerivory_get_word(c.log + 12) == events[i].bit);
     }
 }
 
@@ -463,8 +448,8 @@ static void check_damaged(void) {
     static call c;
     for (size_t i = 0; i < sizeof damages / sizeof damages[0]; i++) {
         make_half_way(&c);
-        put_word(c.saved + damages[i].place, damages[i].word);
-        put_word(c.saved + damages[i].other_place, damages[i].other_word);
+        huskerivory_put_word(c.saved + damages[i].place, damages[i].word);
+        huskerivory_put_word(c.saved + damages[i].other_place, damages[i].other_word);
         check_refused(&c, sizeof c.saved, HUSKERIVORY_REFUSAL_SAVED_CALL);
     }
     make_half_way(&c);
@@ -520,9 +505,9 @@ static void check_long_lists(void) {
     CHECK(huskerivory_begin(&d, operations, 4 * HUSKERIVORY_OPERATIONS + 3, buffer, 0, saved, sizeof saved) == 0);
     CHECK(huskerivory_begin(&d, operations, 4 * 65, buffer, 0, saved, sizeof saved) == HUSKERIVORY_REFUSAL_LIST);
     CHECK(huskerivory_begin(&d, operations, 4 * 66, buffer, 0, saved, sizeof saved) == HUSKERIVORY_REFUSAL_LIST);
-    put_word(operations, 256);
+    huskerivory_put_word(operations, 256);
     CHECK(huskerivory_begin(&d, operations, 4, buffer, 256, saved, sizeof saved) == HUSKERIVORY_REFUSAL_LONG);
-    put_word(operations, 0x20000);
+    huskerivory_put_word(operations, 0x20000);
     CHECK(huskerivory_begin(&d, operations, 4, buffer, 0, saved, sizeof saved) == HUSKERIVORY_REFUSAL_LIST);
 }
 
