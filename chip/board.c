@@ -19,7 +19,7 @@ enum { CR1 = 0x00, CR2 = 0x04, ISR = 0x18, ICR = 0x1C, RXDR = 0x24, TXDR = 0x28 
 #define ISR_TC (1U << 6)
 #define ISR_TCR (1U << 7)
 
-enum { POLLS = 2, NO_PLACE = 0xFF };
+enum { POLLS = 2, NO_PLACE = SCOREBOARD_PLACES };
 
 static uint32_t cr1, cr2, isr = ISR_TXE;
 static enum { RESTING, ADDRESSING, SENDING, RECEIVING } bus;
@@ -28,8 +28,8 @@ static unsigned left;  /* bytes of the running transfer */
 static uint8_t moving; /* the byte on the bus */
 
 static uint8_t places[SCOREBOARD_PLACES];
-static uint8_t place;           /* of the next byte; NO_PLACE until a write has said it */
-static unsigned patience = 255; /* bytes that the scoreboard still acknowledges */
+static unsigned place;            /* of the next byte; NO_PLACE until a write has said it */
+static unsigned patience = 65535; /* bytes that the scoreboard still acknowledges */
 
 const uint8_t *scoreboard(void) {
     return places;
@@ -43,7 +43,7 @@ void scoreboard_gives_up_after(unsigned bytes) {
 
 static uint8_t *next_place(void) {
     uint8_t *here = &places[place % SCOREBOARD_PLACES];
-    place = (uint8_t)((place + 1) % SCOREBOARD_PLACES);
+    place = (place + 1) % SCOREBOARD_PLACES;
     return here;
 }
 

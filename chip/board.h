@@ -13,9 +13,9 @@
 uint32_t i2c_read(uint32_t offset);
 void i2c_write(uint32_t offset, uint32_t value);
 
-/* The scoreboard beyond the bus: the number of a card, its eighteen holes and their total. The first byte of a write says from
- * which place on it is written or read. */
-enum { SCOREBOARD_ADDRESS = 0x50, SCOREBOARD_PLACES = 20 };
+/* The scoreboard beyond the bus, a memory of so many bytes: the number of a card, its eighteen holes and their total, or a card that
+ * is text. The first byte of a write says from which place on it is written or read. */
+enum { SCOREBOARD_ADDRESS = 0x50, SCOREBOARD_PLACES = 600 };
 
 const uint8_t *scoreboard(void);
 void scoreboard_gives_up_after(unsigned bytes); /* it acknowledges so many more bytes */

@@ -1,4 +1,4 @@
-/* The entry terminal sends a card of eighteen holes to the scoreboard, from C without an operating system: an example to copy
+/* The entry terminal sends cards of eighteen holes to the scoreboard, from C without an operating system: an example to copy
  * from. The function `make` is all that a firmware does for the driver; `main` says what is to be done. The registers stand
  * behind i2c_read and i2c_write, here simulated (board.c).
  *
@@ -11,10 +11,10 @@
 
 /* ---- A call, from its beginning to its end */
 
-/* A bus that hangs answers nothing, for ever. The driver then waits, and how long is the firmware's to say: here in polls, on a
- * chip rather by a timer. A call that is given up is simply not advanced any more; HUSKERIVORY_CALL_RESET then resets the
- * peripheral. */
-enum { PATIENCE = 10000, GIVEN_UP = 100 };
+/* A bus that hangs answers nothing, for ever. The driver then waits, and how long is the firmware's to say: here in polls, so many
+ * for a call and for each of its bytes, on a chip rather by a timer. A call that is given up is simply not advanced any more;
+ * HUSKERIVORY_CALL_RESET then resets the peripheral. */
+enum { PATIENCE = 1000, GIVEN_UP = 100 };
 
 /* One answer to an advance takes eight log entries at most. */
 enum { LOG_ENTRIES = 8 };
@@ -56,7 +56,8 @@ static ending make(call *c) {
     }
     int reads = huskerivory_next(&c->description, c->operations, c->operations_len, saved, sizeof saved, c->buffer,
                                  c->buffer_len, &awaited) == HUSKERIVORY_ACCESS_READ;
-    for (unsigned poll = 0; poll < PATIENCE; poll++) {
+    uint32_t patience = PATIENCE * (1 + c->buffer_len);
+    for (uint32_t poll = 0; poll < patience; poll++) {
         if (reads) {
             huskerivory_put_word(answer, i2c_read(awaited));
         }
@@ -90,7 +91,7 @@ static call to_scoreboard(uint8_t *buffer, uint32_t buffer_len) {
     return c;
 }
 
-/* A write of the whole buffer. */
+/* A write of the whole buffer, of up to 65,535 bytes. */
 static ending send(uint8_t *buffer, uint32_t buffer_len) {
     call c = to_scoreboard(buffer, buffer_len);
     huskerivory_put_word(c.operations, buffer_len);
@@ -146,6 +147,20 @@ static void show_scoreboard(void) {
     printf("  total %u\n", at[19]);
 }
 
+/* A competition's card is text, a row for each hole with its name and the strokes. It is longer than the 255 bytes that NBYTES
+ * counts, and still one operation: the driver sends it in pieces, with one START. */
+static uint32_t competition(uint8_t *card, uint32_t room) {
+    static const char *const holes[18] = {"Lane End",      "The Spinney", "Short Carry", "Mill Race",  "Parson's Oak", "Long Meadow",
+                                          "Quarry",        "Beacon Hill", "The Turn",    "Heron Pool", "Gorse Bank",   "Drovers' Way",
+                                          "Postage Stamp", "Windmill",    "Old Wall",    "Lime Kiln",  "Chapel Walk",  "Home"};
+    static const unsigned strokes[18] = {4, 5, 3, 6, 4, 5, 4, 4, 5, 4, 4, 6, 3, 5, 4, 2, 5, 5};
+    uint32_t at = 0;
+    for (int i = 0; i < 18; i++) {
+        at += (uint32_t)snprintf((char *)card + at, room - at, "%d;%s;%u\n", i + 1, holes[i], strokes[i]);
+    }
+    return at;
+}
+
 /* A library of another version would take other arguments. */
 static int is_the_headers_library(void) {
     static const uint32_t expected[HUSKERIVORY_ABI_SIZES] = HUSKERIVORY_ABI_EXPECTED;
@@ -158,6 +173,7 @@ int main(void) {
     uint8_t card_17[] = {0, 17, 4, 5, 3, 4, 4, 6, 3, 5, 4, 5, 4, 3, 4, 5, 4, 4, 3, 5, 75};
     uint8_t card_18[] = {0, 18, 5, 5, 4, 4, 5, 6, 3, 5, 5, 5, 4, 4, 4, 5, 4, 5, 3, 6, 82};
     uint8_t total[] = {19, 0};
+    static uint8_t names[SCOREBOARD_PLACES]; /* the place where it begins, and a competition's card */
     uint32_t timingr;
 
     if (!is_the_headers_library()) {
@@ -181,5 +197,11 @@ int main(void) {
     scoreboard_gives_up_after(8);
     well &= !say("card 18", send(card_18, sizeof card_18));
     show_scoreboard();
+
+    scoreboard_gives_up_after(sizeof names);
+    uint32_t length = competition(names + 1, sizeof names - 1);
+    well &= say("the competition's card", send(names, 1 + length));
+    well &= memcmp(scoreboard(), names + 1, length) == 0;
+    printf("the scoreboard holds its %u bytes, the last row %s", (unsigned)length, (const char *)scoreboard() + length - strlen("18;Home;5\n"));
     return well ? 0 : 1;
 }

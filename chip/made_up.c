@@ -94,7 +94,7 @@ static void describe(void) {
 static void list_operations(void) {
     uint32_t most = once_in(20) ? OPERATIONS : 5, count = below(most), total = 0;
     for (uint32_t i = 0; i < count; i++) {
-        uint32_t longest = once_in(30) ? 260 : 8, word = below(longest);
+        uint32_t longest = once_in(10) ? 600 : 8, word = below(longest);
         total += word;
         if (once_in(2)) {
             word |= HUSKERIVORY_OPERATION_READ;
@@ -163,11 +163,21 @@ static void time_and_pack(void) {
     add_number(timingr);
 }
 
+/* Now and then a call goes on near the end of a piece, where few would come otherwise. */
+static void move_on(void) {
+    if (description.call == HUSKERIVORY_CALL_TRANSACTION && buffer_len > 240 && once_in(2)) {
+        uint32_t piece = below(3);
+        huskerivory_put_word(saved + 4, piece);
+        huskerivory_put_word(saved + 8, 240 + below(18));
+    }
+}
+
 static void make_one_up(void) {
     lend();
     describe();
     list_operations();
     add_number(huskerivory_begin(&description, operations, operations_len, buffer, buffer_len, saved, saved_len));
+    move_on();
     for (int i = 0; i < ADVANCES && advance(); i++) {
     }
     time_and_pack();

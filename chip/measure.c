@@ -7,14 +7,14 @@
 #include <stdio.h>
 #include <string.h>
 
-enum { BYTES = 255, ANSWERS = 64 * (3 + 2 * BYTES), PLACES = 1100 };
+enum { BYTES = 255, ANSWERS = 64 * (3 + 2 * BYTES), PLACES = 1100, LONGEST = 65535 };
 
 /* ---- A transaction, with the answers of a bus that is always ready */
 
 enum { ISR_IDLE = 0x01, ISR_BYTE_OUT = 0x03, ISR_BYTE_IN = 0x04, ISR_STOP = 0x20, ISR_NEXT = 0x80 };
 
 static huskerivory_description description;
-static uint8_t operations[4 * 64], buffer[64 * BYTES], answers[4 * ANSWERS], begun[HUSKERIVORY_SAVED_CALL];
+static uint8_t operations[4 * 64], buffer[LONGEST], answers[4 * ANSWERS], begun[HUSKERIVORY_SAVED_CALL];
 static uint8_t saved[HUSKERIVORY_SAVED_CALL], entries[PLACES * HUSKERIVORY_LOG_ENTRY];
 static uint32_t operations_len, buffer_len, answer_count;
 static uint8_t *lent; /* the answers of the next advance */
@@ -26,6 +26,7 @@ static void answer(uint32_t word) {
     huskerivory_put_word(answers + 4 * answer_count++, word);
 }
 
+/* So many operations of a length each; the answers are those to the first piece of each, which is all of it up to 255 bytes. */
 static void transaction(uint32_t count, uint32_t length, int reads) {
     memset(&description, 0, sizeof description);
     description.call = HUSKERIVORY_CALL_TRANSACTION;
@@ -37,13 +38,13 @@ static void transaction(uint32_t count, uint32_t length, int reads) {
         huskerivory_put_word(operations + 4 * i, reads ? length | HUSKERIVORY_OPERATION_READ : length);
         answer(ISR_IDLE);
         answer(0); /* CR2: the start was sent */
-        for (uint32_t byte = 0; byte < length; byte++) {
+        for (uint32_t byte = 0; byte < length && byte < BYTES; byte++) {
             answer(reads ? ISR_BYTE_IN : ISR_BYTE_OUT);
             if (reads) {
                 answer(byte);
             }
         }
-        answer(i + 1 < count ? ISR_NEXT : ISR_STOP);
+        answer(i + 1 < count || length > BYTES ? ISR_NEXT : ISR_STOP);
     }
 }
 
@@ -197,6 +198,72 @@ static void uncut(const char *name, int reads) {
     tell(name, 10 * whole / (uint32_t)last.written);
 }
 
+/* ---- The same at 255 bytes and at 65,535: nothing that an advance does goes by the length of an operation */
+
+/* Where in a saved call the number of its piece stands. */
+enum { PIECE = 4 };
+
+/* A measurement whose name is made of what was measured, the length of the operation and the number of the running piece. */
+static const char *named(const char *what, uint32_t length, uint32_t piece) {
+    static char name[40];
+    snprintf(name, sizeof name, "%s-%u-%u", what, (unsigned)length, (unsigned)piece);
+    return name;
+}
+
+/* Goes on, in the first piece of one operation, until so many answers were used, and takes that place in another piece. */
+static void stand(uint32_t length, int reads, uint32_t count, uint32_t piece) {
+    transaction(1, length, reads);
+    go_on(count);
+    huskerivory_put_word(begun + PIECE, piece);
+}
+
+/* Advances in one piece of an operation: one answer each, at its third byte; a hundred bytes in one; and the one that goes on to the
+ * next piece, if there is one. */
+static void in_piece(uint32_t length, uint32_t piece) {
+    stand(length, 0, 4, piece);
+    tell_advance(named("idle", length, piece), ISR_IDLE, HUSKERIVORY_REPORT_WAITING);
+    tell_advance(named("out", length, piece), ISR_BYTE_OUT, HUSKERIVORY_REPORT_WAITING);
+    lent = answers + 4 * 4;
+    lent_len = 4 * 100;
+    log_len = 200 * HUSKERIVORY_LOG_ENTRY;
+    tell(named("hundred-out", length, piece), instructions(advance, restore, TIMES));
+    expect("a hundred bytes out", HUSKERIVORY_REPORT_FULL);
+    stand(length, 1, 6, piece);
+    tell_advance(named("in", length, piece), ISR_BYTE_IN, HUSKERIVORY_REPORT_WAITING);
+    lent = answers + 4 * 6;
+    lent_len = 4 * 200;
+    log_len = 200 * HUSKERIVORY_LOG_ENTRY;
+    tell(named("hundred-in", length, piece), instructions(advance, restore, TIMES));
+    expect("a hundred bytes in", HUSKERIVORY_REPORT_FULL);
+    stand(length, 1, 7, piece);
+    tell_advance(named("in-byte", length, piece), 0xAB, HUSKERIVORY_REPORT_WAITING);
+    if (BYTES * (piece + 1) < length) {
+        stand(length, 0, 2 + BYTES, piece);
+        tell_advance(named("next-piece", length, piece), ISR_NEXT, HUSKERIVORY_REPORT_WAITING);
+    }
+}
+
+/* The last of the most pieces, 320: 63 operations of no byte and one of 65,535 bytes. */
+static void in_last_piece(void) {
+    stand(LONGEST, 0, 4, 319);
+    memset(operations, 0, sizeof operations);
+    operations_len = sizeof operations;
+    huskerivory_put_word(operations + 4 * 63, LONGEST);
+    tell_advance("idle-most", ISR_IDLE, HUSKERIVORY_REPORT_WAITING);
+    tell_advance("out-most", ISR_BYTE_OUT, HUSKERIVORY_REPORT_WAITING);
+}
+
+static void tell_pieces(void) {
+    in_piece(BYTES, 0);
+    in_piece(2 * BYTES, 0);
+    in_piece(2 * BYTES, 1);
+    in_piece(LONGEST, 0);
+    in_piece(LONGEST, 128);
+    in_piece(LONGEST, 255);
+    in_piece(LONGEST, 256);
+    in_last_piece();
+}
+
 static void tell_instructions(void) {
     SYST_RVR = SYST_MOST;
     SYST_CVR = 0;
@@ -218,6 +285,7 @@ static void tell_instructions(void) {
     tell("pack", instructions(pack, nothing, TIMES));
     tell("unpack", instructions(unpack, nothing, TIMES));
     tell("abi", instructions(abi, nothing, TIMES));
+    tell_pieces();
 }
 
 /* ---- Stack */

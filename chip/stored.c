@@ -7,7 +7,7 @@
 #include <stdlib.h>
 #include <string.h>
 
-enum { OPERATIONS = 80, BYTES = 1024, ANSWERS = 2048, PLACES = 2048 };
+enum { OPERATIONS = 80, BYTES = HUSKERIVORY_BUFFER + 2, ANSWERS = 2048, PLACES = 2048 };
 
 /* ---- A stored call, and what came of it */
 

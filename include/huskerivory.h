@@ -136,9 +136,14 @@ typedef struct {
     uint32_t reserved[6]; /* set these to 0: this version does not look at them; to a later one that does, 0 means as before */
 } huskerivory_description;
 
-/* An operation of a transaction is a word: its length (up to 255 bytes) and, if bytes are to come in, this bit. A
+/* An operation of a transaction is a word: its length (up to 65,535 bytes) and, if bytes are to come in, this bit. A
  * transaction has at most HUSKERIVORY_OPERATIONS of them. Their bytes stand in the buffer one operation after the other, so that the
- * lengths sum up to the buffer's. No other call looks at the operations. */
+ * lengths sum up to the buffer's. No other call looks at the operations.
+ *
+ * NBYTES counts to 255, so an operation goes in pieces: 255 bytes as long as more than 255 are left, then the last 1 to 255; an
+ * operation of no byte is one empty piece. CR2 is written once for each piece. RELOAD joins the pieces of an operation, and those of
+ * neighbours that go the same way, so that a START is sent for the first piece and where the direction changes, and nowhere else. A
+ * list has 320 pieces at most; HUSKERIVORY_OPERATIONS counts operations alone. */
 #define HUSKERIVORY_OPERATION_READ UINT32_C(0x10000)
 
 /* The buffer holds a transaction's bytes, those put out and the places of those that come in; for 10 and 12 (26, 28) the bytes to
@@ -148,7 +153,8 @@ typedef struct {
 /* ---- Refusals */
 
 /* The first of these that fits is given, in the order in which they stand. 1 to 6 come from huskerivory_timing, 7 from
- * huskerivory_pack, the others from begin, next and advance; 13 from next and advance, and for a wrong `saved_len`. */
+ * huskerivory_pack, the others from begin, next and advance; 13 from next and advance, and for a wrong `saved_len`. 9 is out of
+ * use: it was an operation over 255 bytes. */
 enum {
     HUSKERIVORY_REFUSAL_NO_SPEED = 1,      /* no speed: the bus frequency is 0 */
     HUSKERIVORY_REFUSAL_CLOCK_OVER = 2,    /* clock over: the kernel clock is above 250 MHz */
@@ -160,7 +166,6 @@ enum {
     HUSKERIVORY_REFUSAL_NO_SUCH_CALL = 12, /* no such call: the call's number or the listen kind is not listed */
     HUSKERIVORY_REFUSAL_ADDRESS = 8,       /* address: too wide for its seven or ten bits, or a mask above 6 */
     HUSKERIVORY_REFUSAL_LIST = 10,         /* list: over 64 operations, bits 17 to 31 set, or lengths that are not the buffer's */
-    HUSKERIVORY_REFUSAL_LONG = 9,          /* long: an operation over 255 bytes */
     HUSKERIVORY_REFUSAL_BUFFER = 11,       /* buffer: none for an AutoAck transfer (9 to 12), or over 65,535 bytes */
     HUSKERIVORY_REFUSAL_SAVED_CALL = 13    /* saved call: its bytes are no saved call, or none that this call can come to */
 };
@@ -170,7 +175,7 @@ enum {
 /* A call between two advances: HUSKERIVORY_SAVED_CALL bytes, eight words. They can be stored and handed back later, by another program too:
  *
  *     bytes  0 ..  3   the call's number; 0 after a refused begin, which no advance takes
- *     bytes  4 ..  7   piece: which operation, or which block of a target's transfer, is running
+ *     bytes  4 ..  7   piece: which piece is running, counted through the whole list, or which block of a target's transfer
  *     bytes  8 .. 11   byte: which byte of it
  *     bytes 12 .. 15   word: what the last half-done modify read
  *     bytes 16 .. 19   accesses made so far, held at 4,294,967,295

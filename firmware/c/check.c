@@ -1,7 +1,8 @@
 /* Drives the library from C and holds it to document 01: version and sizes, the layout of the structs, the worked timings, the worked
- * run of its section on the bench, cut in two ways, and refusals, which must leave everything as it was. Prints a line for each
- * group of checks; the exit status is 1 if one failed. It runs on a core of 32 bits as well: calls are kept in static memory, since
- * their logs are too long for a small stack, and numbers are printed as `unsigned long`, which every printf knows. */
+ * run of its section on the bench, cut in two ways, operations that go in pieces (document 02, R-1), and refusals, which must leave
+ * everything as it was. Prints a line for each group of checks; the exit status is 1 if one failed. It runs on a core of 32 bits as
+ * well: calls are kept in static memory, since their logs are too long for a small stack, and numbers are printed as `unsigned long`,
+ * which every printf knows. */
 #include "huskerivory.h"
 
 #include <stddef.h>
@@ -65,7 +66,7 @@ static void run_group(const char *name, void (*body)(void)) {
 
 /* ---- A call with all that is lent to it; its log is that of all its advances, and `used` counts their answers */
 
-enum { PLACES = 520, BLANK = 0xA5 };
+enum { PLACES = 530, BLANK = 0xA5 };
 
 /* Stands where a number is to be written, and is no such number. */
 #define UNWRITTEN UINT32_C(0xA5A5A5A5)
@@ -74,7 +75,7 @@ typedef struct {
     huskerivory_description description;
     uint8_t operations[8];
     size_t operations_len;
-    uint8_t buffer[256];
+    uint8_t buffer[257];
     size_t buffer_len;
     uint8_t saved[HUSKERIVORY_SAVED_CALL];
     uint8_t log[PLACES * HUSKERIVORY_LOG_ENTRY];
@@ -317,41 +318,187 @@ static void check_reserved(void) {
     check_text(&c, a);
 }
 
-/* Advances until the call has ended, with all answers that are left and a log of so many places each time. */
-static void run_long(call *c, const uint8_t *answers, size_t answers_len, size_t places) {
+/* What the registers answer to a transaction, on a bus that is always ready. */
+typedef struct {
+    uint8_t words[4 * PLACES];
+    size_t count;
+} answers;
+
+static void answer(answers *a, uint32_t word) {
+    huskerivory_put_word(a->words + 4 * a->count++, word);
+}
+
+/* The answers to one piece: TXE, CR2 without START, then TXIS for each byte or RXNE and the byte, then the flag that ends it. */
+static void answer_piece(answers *a, uint32_t reads, size_t bytes, uint32_t end) {
+    answer(a, 0x01);
+    answer(a, 0);
+    for (size_t i = 0; i < bytes; i++) {
+        answer(a, reads ? 0x04 : 0x02);
+        if (reads) {
+            answer(a, (uint32_t)i);
+        }
+    }
+    answer(a, end);
+}
+
+/* A transaction of one operation, or two, over zero bytes. */
+static void make_list(call *c, uint32_t first, uint32_t second) {
     make_worked(c);
-    huskerivory_put_word(c->operations, 255);
-    c->buffer_len = 255;
-    for (size_t i = 0; i < c->buffer_len; i++) {
+    huskerivory_put_word(c->operations, first);
+    huskerivory_put_word(c->operations + 4, second);
+    c->operations_len = second == 0 ? 4 : 8;
+    c->buffer_len = (first & 0xFFFF) + (second & 0xFFFF);
+    memset(c->buffer, 0, sizeof c->buffer);
+}
+
+/* Advances until the call has ended, with all answers that are left and a log of so many places each time. */
+static void run_long(call *c, uint32_t bytes, const answers *a, size_t places) {
+    make_list(c, bytes, 0);
+    for (size_t i = 0; i < bytes; i++) {
         c->buffer[i] = (uint8_t)(i + 1);
     }
     CHECK(begin(c) == 0);
-    advanced a;
+    advanced last;
     do {
         size_t left = PLACES - c->entries;
-        a = advance(c, answers + 4 * c->used, answers_len - 4 * c->used, left < places ? left : places);
-    } while (a.report == HUSKERIVORY_REPORT_FULL && a.answer.written == places);
-    CHECK(a.report == HUSKERIVORY_REPORT_DONE && a.answer.value == 0);
+        last = advance(c, a->words + 4 * c->used, 4 * (a->count - c->used), left < places ? left : places);
+    } while (last.report == HUSKERIVORY_REPORT_FULL && last.answer.written == places);
+    CHECK(last.report == HUSKERIVORY_REPORT_DONE && last.answer.value == 0);
 }
 
-/* 255 bytes out: 515 accesses over 258 answers, in one advance and in many. */
-static void check_long(void) {
-    static const size_t places[] = {1, 2, 7, 8, 9, 127, 128, 129, 135, 136, 137, 300, 514, 515};
-    static uint8_t answers[4 * 258];
+/* So many bytes out, in one advance and in many: each byte once and in order, and the same accesses however it is cut. */
+static void check_long_of(uint32_t bytes, const answers *a, size_t entries) {
+    static const size_t places[] = {1, 2, 7, 8, 9, 127, 128, 129, 135, 136, 137, 300, 514, 515, 516, 522, 523};
     static call whole, cut;
-    for (size_t i = 0; i < 258; i++) {
-        huskerivory_put_word(answers + 4 * i, i == 0 ? 1 : i == 1 ? 0 : i == 257 ? 0x20 : 3);
+    size_t out = 0;
+    run_long(&whole, bytes, a, PLACES);
+    CHECK(whole.used == a->count && whole.entries == entries);
+    for (size_t i = 0; i < whole.entries; i++) {
+        const uint8_t *entry = whole.log + i * HUSKERIVORY_LOG_ENTRY;
+        if (huskerivory_get_word(entry) == (HUSKERIVORY_LOG_WRITE | 0x28)) {
+            out++;
+            CHECK(huskerivory_get_word(entry + 4) == (uint8_t)out);
+        }
     }
-    run_long(&whole, answers, sizeof answers, PLACES);
-    CHECK(whole.used == 258 && whole.entries == 515);
-    for (size_t i = 0; i < 255; i++) {
-        const uint8_t *entry = whole.log + (4 + 2 * i) * HUSKERIVORY_LOG_ENTRY;
-        CHECK(huskerivory_get_word(entry) == (HUSKERIVORY_LOG_WRITE | 0x28) && huskerivory_get_word(entry + 4) == i + 1);
-    }
+    CHECK(out == bytes);
     for (size_t i = 0; i < sizeof places / sizeof places[0]; i++) {
-        run_long(&cut, answers, sizeof answers, places[i]);
+        run_long(&cut, bytes, a, places[i]);
         CHECK(memcmp(&cut, &whole, sizeof cut) == 0);
     }
+}
+
+/* One piece, the longest: 515 accesses over 258 answers. Two pieces: 523 accesses over 263 answers. */
+static void check_long(void) {
+    static answers one, two;
+    answer_piece(&one, 0, 255, 0x20);
+    check_long_of(255, &one, 515);
+    answer_piece(&two, 0, 255, 0x80);
+    answer_piece(&two, 0, 2, 0x20);
+    check_long_of(257, &two, 523);
+}
+
+/* The words that a log writes to CR2, as far as there is room; returns how many there are. */
+static size_t written_to_cr2(const call *c, uint32_t *words, size_t room) {
+    size_t count = 0;
+    for (size_t i = 0; i < c->entries; i++) {
+        const uint8_t *entry = c->log + i * HUSKERIVORY_LOG_ENTRY;
+        if (huskerivory_get_word(entry) == (HUSKERIVORY_LOG_WRITE | 0x04)) {
+            if (count < room) {
+                words[count] = huskerivory_get_word(entry + 4);
+            }
+            count++;
+        }
+    }
+    return count;
+}
+
+/* Runs a call of zero bytes to its end: `done 0 USED ENTRIES` on the bench, and these words written to CR2. */
+static void check_pieces_of(call *c, const answers *a, size_t used, size_t entries, const uint32_t *expected, size_t count) {
+    uint32_t words[3] = {UNWRITTEN, UNWRITTEN, UNWRITTEN};
+    CHECK(begin(c) == 0);
+    advanced last = advance(c, a->words, 4 * a->count, PLACES);
+    CHECK(last.report == HUSKERIVORY_REPORT_DONE && last.answer.value == 0);
+    CHECK(a->count == used && c->used == used && c->entries == entries);
+    CHECK(written_to_cr2(c, words, 3) == count && memcmp(words, expected, count * sizeof words[0]) == 0);
+}
+
+/* An operation over 255 bytes goes on with RELOAD and a second write of CR2, without START; one of no byte is one empty piece. */
+static void check_pieces(void) {
+    static const uint32_t two[2] = {0x01FF20A0, 0x02010000}, empty[1] = {0x020020A0};
+    static const uint32_t ten_bits[3] = {0x00012923, 0x01FF3D23, 0x02010400};
+    static call c;
+    static answers a;
+    make_list(&c, 256, 0);
+    a.count = 0;
+    answer_piece(&a, 0, 255, 0x80);
+    answer_piece(&a, 0, 1, 0x20);
+    check_pieces_of(&c, &a, 262, 521, two, 2);
+
+    make_list(&c, 1, HUSKERIVORY_OPERATION_READ | 256);
+    c.description.address = 0x123;
+    c.description.ten = 1;
+    a.count = 0;
+    answer_piece(&a, 0, 1, 0x40);
+    answer_piece(&a, 1, 255, 0x80);
+    answer_piece(&a, 1, 1, 0x20);
+    check_pieces_of(&c, &a, 522, 527, ten_bits, 3);
+    for (size_t i = 0; i < 256; i++) {
+        CHECK(c.buffer[1 + i] == (i < 255 ? i : 0));
+    }
+
+    make_list(&c, 0, 0);
+    a.count = 0;
+    answer_piece(&a, 0, 0, 0x20);
+    check_pieces_of(&c, &a, 3, 5, empty, 1);
+}
+
+/* The longest buffer, and one byte more. */
+static uint8_t longest[HUSKERIVORY_BUFFER + 1];
+
+/* The longest operation, out or in, one answer to an advance. The bus is always ready: CR2 has no START when it is read, and once a
+ * piece is through TCR is up, after the last STOPF. */
+static void check_longest_of(uint32_t reads) {
+    static uint8_t saved[HUSKERIVORY_SAVED_CALL];
+    static huskerivory_description d;
+    uint8_t *buffer = longest, operation[4], word[4], log[8 * HUSKERIVORY_LOG_ENTRY];
+    huskerivory_advanced a = {0, 0, 0, 0};
+    uint32_t report, direction = reads ? 0x400 : 0, pieces = 0, moved = 0, accesses = 0, used = 0;
+    for (size_t i = 0; i < HUSKERIVORY_BUFFER; i++) {
+        buffer[i] = (uint8_t)(reads ? BLANK : i % 251);
+    }
+    huskerivory_put_word(operation, HUSKERIVORY_BUFFER | (reads ? HUSKERIVORY_OPERATION_READ : 0));
+    d.call = HUSKERIVORY_CALL_TRANSACTION;
+    d.address = 0x50;
+    CHECK(huskerivory_begin(&d, operation, sizeof operation, buffer, HUSKERIVORY_BUFFER, saved, sizeof saved) == 0);
+    do {
+        uint32_t isr = moved < 255 * pieces ? (reads ? 0x04 : 0x02) : pieces < 257 ? 0x80 : 0x20;
+        huskerivory_put_word(word, a.awaited == 0x18 ? isr : a.awaited == 0x24 ? moved % 251 : 0);
+        report = huskerivory_advance(&d, operation, sizeof operation, saved, sizeof saved, buffer, HUSKERIVORY_BUFFER, word,
+                                     accesses == 0 ? 0 : sizeof word, log, sizeof log, &a);
+        for (const uint8_t *entry = log; entry < log + a.written * HUSKERIVORY_LOG_ENTRY; entry += HUSKERIVORY_LOG_ENTRY) {
+            uint32_t code = huskerivory_get_word(entry), value = huskerivory_get_word(entry + 4);
+            if (code == (HUSKERIVORY_LOG_WRITE | 0x04)) {
+                CHECK(moved == 255 * pieces);
+                CHECK(value == ((pieces == 0 ? 0x01FF20A0U : pieces < 256 ? 0x01FF0000U : 0x02FF0000U) | direction));
+                pieces++;
+            } else if (code == (HUSKERIVORY_LOG_WRITE | 0x28) || code == 0x24) {
+                CHECK(value == moved % 251);
+                moved++;
+            }
+        }
+        accesses += (uint32_t)a.written;
+        used += (uint32_t)a.used;
+    } while (report == HUSKERIVORY_REPORT_WAITING && accesses < 200000);
+    CHECK(report == HUSKERIVORY_REPORT_DONE && a.value == 0);
+    CHECK(pieces == 257 && moved == HUSKERIVORY_BUFFER && accesses == 132099 && used == (reads ? 131841 : 66306));
+    for (size_t i = 0; i < HUSKERIVORY_BUFFER; i++) {
+        CHECK(buffer[i] == i % 251);
+    }
+}
+
+static void check_longest(void) {
+    check_longest_of(0);
+    check_longest_of(1);
 }
 
 static void check_bytes_in(void) {
@@ -436,7 +583,7 @@ static void check_damaged(void) {
     } damages[] = {
         {0, 8, 0, 8},    /* another call's number */
         {0, 0, 28, 0},   /* that of a refused begin */
-        {4, 1, 4, 1},    /* no such operation */
+        {4, 1, 4, 1},    /* no such piece */
         {8, 4, 8, 4},    /* no such byte */
         {8, 2, 28, 5},   /* the byte that is to be moved is not there */
         {20, 10, 24, 0}, /* no such outcome */
@@ -498,26 +645,61 @@ static void check_descriptions(void) {
     CHECK(memcmp(&c, &before, sizeof c) == 0);
 }
 
-static void check_long_lists(void) {
-    static uint8_t operations[4 * 66], buffer[256], saved[HUSKERIVORY_SAVED_CALL];
+/* 64 counts operations and not their pieces; a list that agrees with a buffer over 65,535 bytes is refused for the buffer. */
+static void check_lists(void) {
+    static uint8_t operations[4 * 66], saved[HUSKERIVORY_SAVED_CALL];
     static huskerivory_description d;
     d.call = HUSKERIVORY_CALL_TRANSACTION;
-    CHECK(huskerivory_begin(&d, operations, 4 * HUSKERIVORY_OPERATIONS + 3, buffer, 0, saved, sizeof saved) == 0);
-    CHECK(huskerivory_begin(&d, operations, 4 * 65, buffer, 0, saved, sizeof saved) == HUSKERIVORY_REFUSAL_LIST);
-    CHECK(huskerivory_begin(&d, operations, 4 * 66, buffer, 0, saved, sizeof saved) == HUSKERIVORY_REFUSAL_LIST);
+    CHECK(huskerivory_begin(&d, operations, 4 * HUSKERIVORY_OPERATIONS + 3, longest, 0, saved, sizeof saved) == 0);
+    CHECK(huskerivory_begin(&d, operations, 4 * 65, longest, 0, saved, sizeof saved) == HUSKERIVORY_REFUSAL_LIST);
+    CHECK(huskerivory_begin(&d, operations, 4 * 66, longest, 0, saved, sizeof saved) == HUSKERIVORY_REFUSAL_LIST);
     huskerivory_put_word(operations, 256);
-    CHECK(huskerivory_begin(&d, operations, 4, buffer, 256, saved, sizeof saved) == HUSKERIVORY_REFUSAL_LONG);
+    CHECK(huskerivory_begin(&d, operations, 4, longest, 256, saved, sizeof saved) == 0);
+    CHECK(huskerivory_begin(&d, operations, 4, longest, 255, saved, sizeof saved) == HUSKERIVORY_REFUSAL_LIST);
+    huskerivory_put_word(operations, 0xFFFF);
+    CHECK(huskerivory_begin(&d, operations, 4, longest, 65535, saved, sizeof saved) == 0);
+    CHECK(huskerivory_begin(&d, operations, 4, longest, 65536, saved, sizeof saved) == HUSKERIVORY_REFUSAL_LIST);
+    huskerivory_put_word(operations, 0x8000);
+    huskerivory_put_word(operations + 4, 0x8000);
+    CHECK(huskerivory_begin(&d, operations, 8, longest, 65536, saved, sizeof saved) == HUSKERIVORY_REFUSAL_BUFFER);
+    CHECK(huskerivory_begin(&d, operations, 8, longest, 65535, saved, sizeof saved) == HUSKERIVORY_REFUSAL_LIST);
     huskerivory_put_word(operations, 0x20000);
-    CHECK(huskerivory_begin(&d, operations, 4, buffer, 0, saved, sizeof saved) == HUSKERIVORY_REFUSAL_LIST);
+    CHECK(huskerivory_begin(&d, operations, 4, longest, 0, saved, sizeof saved) == HUSKERIVORY_REFUSAL_LIST);
 }
 
-/* The longest buffer, and one byte more. */
+/* The most pieces, 320: 63 empty operations and one of 65,535 bytes. A saved call that stands at the last one is taken, and one that
+ * stands behind it is none. */
+static void check_last_piece(void) {
+    static uint8_t operations[4 * HUSKERIVORY_OPERATIONS], saved[HUSKERIVORY_SAVED_CALL];
+    static huskerivory_description d;
+    static const struct {
+        uint32_t piece, kind, value;
+    } cases[] = {
+        {62, HUSKERIVORY_ACCESS_WRITE, 0x04},
+        {63, HUSKERIVORY_ACCESS_WRITE, 0x04},
+        {319, HUSKERIVORY_ACCESS_WRITE, 0x04},
+        {320, HUSKERIVORY_ACCESS_REFUSED, HUSKERIVORY_REFUSAL_SAVED_CALL},
+        {320 + 256, HUSKERIVORY_ACCESS_REFUSED, HUSKERIVORY_REFUSAL_SAVED_CALL},
+        {0x10000, HUSKERIVORY_ACCESS_REFUSED, HUSKERIVORY_REFUSAL_SAVED_CALL},
+    };
+    d.call = HUSKERIVORY_CALL_TRANSACTION;
+    huskerivory_put_word(operations + 4 * 63, 0xFFFF);
+    CHECK(huskerivory_begin(&d, operations, sizeof operations, longest, HUSKERIVORY_BUFFER, saved, sizeof saved) == 0);
+    for (size_t i = 0; i < sizeof cases / sizeof cases[0]; i++) {
+        uint32_t value = UNWRITTEN;
+        huskerivory_put_word(saved + 4, cases[i].piece);
+        uint32_t kind = huskerivory_next(&d, operations, sizeof operations, saved, sizeof saved, longest, HUSKERIVORY_BUFFER, &value);
+        CHECK(kind == cases[i].kind && value == cases[i].value);
+    }
+}
+
+/* The longest buffer of another call, and one byte more. */
 static void check_long_buffers(void) {
-    static uint8_t buffer[HUSKERIVORY_BUFFER + 1], saved[HUSKERIVORY_SAVED_CALL];
+    static uint8_t saved[HUSKERIVORY_SAVED_CALL];
     static huskerivory_description d;
     d.call = HUSKERIVORY_CALL_WRITE;
-    CHECK(huskerivory_begin(&d, buffer, 0, buffer, HUSKERIVORY_BUFFER, saved, sizeof saved) == 0);
-    CHECK(huskerivory_begin(&d, buffer, 0, buffer, HUSKERIVORY_BUFFER + 1, saved, sizeof saved) == HUSKERIVORY_REFUSAL_BUFFER);
+    CHECK(huskerivory_begin(&d, longest, 0, longest, HUSKERIVORY_BUFFER, saved, sizeof saved) == 0);
+    CHECK(huskerivory_begin(&d, longest, 0, longest, HUSKERIVORY_BUFFER + 1, saved, sizeof saved) == HUSKERIVORY_REFUSAL_BUFFER);
 }
 
 int main(void) {
@@ -531,12 +713,15 @@ int main(void) {
     run_group("the worked run, one log place at a time", check_places);
     run_group("the worked run, with other reserved words", check_reserved);
     run_group("a long transaction, in one advance and in many", check_long);
+    run_group("operations in pieces", check_pieces);
+    run_group("the longest operation, out and in", check_longest);
     run_group("bytes that come in", check_bytes_in);
     run_group("own addresses", check_addresses);
     run_group("events to listen to", check_listen);
     run_group("damaged saved calls", check_damaged);
     run_group("refused descriptions", check_descriptions);
-    run_group("lists that are too long", check_long_lists);
+    run_group("lists, and what is wrong with them", check_lists);
+    run_group("the last of the most pieces", check_last_piece);
     run_group("buffers that are too long", check_long_buffers);
     return failed_groups == 0 ? 0 : 1;
 }

@@ -42,7 +42,10 @@ pub fn compare(files: u64, seed: u64, program: &str) -> io::Result<bool> {
     println!("bench: {files} files compared, 0 differences");
     let all = files < 5_000 || counts.all_reached();
     if !all {
-        println!("bench: a call, an outcome, a refusal or the known difference was not reached");
+        println!(
+            "bench: a call, an outcome, a refusal, a later piece or the known difference was not \
+             reached"
+        );
     }
     Ok(all)
 }
@@ -104,6 +107,9 @@ struct Counts {
     files: u64,
     refused: u64,
     empty: u64,
+    /// Calls that came to a later piece of an operation, and those that were done then.
+    later: u64,
+    later_done: u64,
     calls: Tally,
 }
 
@@ -115,6 +121,9 @@ impl Counts {
             Some(calls) => {
                 self.empty += u64::from(calls.is_empty());
                 calls.iter().for_each(|run| self.calls.count(run));
+                self.later += printed.later.len() as u64;
+                let done = printed.later.iter().filter(|&&word| word == "done");
+                self.later_done += done.count() as u64;
             }
         }
         if self.files.is_multiple_of(2_000) {
@@ -126,10 +135,15 @@ impl Counts {
         self.calls.print();
         println!("files refused as 14: {}", self.refused);
         println!("files without a call: {}", self.empty);
+        println!(
+            "calls that came to a later piece of an operation: {}, of which done: {}",
+            self.later, self.later_done
+        );
         println!("calls: {}", self.calls.runs);
     }
 
     fn all_reached(&self) -> bool {
-        self.refused > 0 && self.empty > 0 && self.calls.all_reached()
+        let later = self.later > self.later_done && self.later_done > 0;
+        self.refused > 0 && self.empty > 0 && later && self.calls.all_reached()
     }
 }

@@ -7,6 +7,7 @@ pub mod chip;
 pub mod expected;
 pub mod generate;
 pub mod outside;
+pub mod pieces;
 pub mod run;
 pub mod sample;
 pub mod shrink;

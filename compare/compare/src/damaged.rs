@@ -24,6 +24,9 @@ const CALLS: u64 = 100;
 
 const EVERY: Duration = Duration::from_secs(5);
 
+/// What an advance is refused by.
+const REFUSALS: [u32; 5] = [8, 10, 11, 12, 13];
+
 /// The most that one of the slices may have.
 const MOST: usize = 80_000;
 
@@ -105,7 +108,7 @@ impl Boundary {
 
     fn all_reached(&self) -> bool {
         let all = self.reports.iter().all(|&count| count > 0)
-            && self.refusals[8..].iter().all(|&count| count > 0);
+            && REFUSALS.iter().all(|&it| self.refusals[it as usize] > 0);
         if !all {
             println!("damaged: a report or a refusal was not reached");
         }
@@ -230,7 +233,7 @@ impl Boundary {
         held("the report", given.report <= FULL)?;
         self.reports[given.report as usize] += 1;
         if given.report == REFUSED {
-            held("a refusal's number", (8..=13).contains(&given.value))?;
+            held("a refusal's number", REFUSALS.contains(&given.value))?;
             self.refusals[given.value as usize] += 1;
         }
         lent.hold_next(next, given)?;
@@ -262,7 +265,7 @@ fn kept(what: &str, given: &[u8], expected: &[u8]) -> Result<(), String> {
 
 impl Bytes {
     /// The refusal that is certain: of the description, or of bytes that are no saved call of this
-    /// call.
+    /// call, or one at a piece that it does not have.
     fn any_refusal(&self) -> Option<u32> {
         self.refusal().or_else(|| (!self.is_saved()).then_some(13))
     }
@@ -276,7 +279,9 @@ impl Bytes {
             0 | 7 | 8 => true,
             outcome => outcome <= 9 && word(saved::VALUE) == 0,
         };
-        outcome && word(saved::STEP) < STEPS && word(saved::CALL) == self.description.call
+        let ended = word(saved::STEP) == 0;
+        let there = ended || (word(saved::PIECE) as usize) < self.pieces().max(1);
+        outcome && there && word(saved::STEP) < STEPS && word(saved::CALL) == self.description.call
     }
 
     fn hold_refusal(&self, given: Advanced, after: &Bytes) -> Result<(), String> {

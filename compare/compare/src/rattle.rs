@@ -367,6 +367,8 @@ pub mod saved {
 #[cfg(test)]
 mod tests {
     use super::*;
+    use crate::calls::build::transaction;
+    use crate::calls::case::Case;
 
     #[test]
     fn the_library_is_the_one_that_this_was_written_for() {
@@ -413,5 +415,69 @@ mod tests {
         assert_eq!(log[..8], *bytes(&[0x104, 0x0202_20A0]));
         assert_eq!(log[64..72], *bytes(&[0x11C, 0x20]));
         assert_eq!(log[72..], [0xA5; 3]);
+    }
+
+    /// The report, value, answers used and entries written of an uncut run, and the words written
+    /// to CR2.
+    fn run(case: &Case) -> (u32, u32, usize, usize, Vec<u32>) {
+        let description = Description::from(&case.asked);
+        let operations = bytes(&case.asked.operations);
+        let mut saved = [0xA5; SAVED];
+        let mut buffer = case.buffer.clone();
+        assert_eq!(begin(&description, operations, &buffer, &mut saved), 0);
+        let mut log = vec![0; 1_000 * ENTRY];
+        let given = advance(
+            &description,
+            operations,
+            &mut saved,
+            &mut buffer,
+            bytes(&case.answers),
+            &mut log,
+        );
+        let entries = (0..given.written).map(|entry| [2 * entry, 2 * entry + 1]);
+        let entries = entries.map(|places| places.map(|place| word(&log, place)));
+        let controls = entries.filter(|entry| entry[0] == 0x104);
+        (
+            given.report,
+            given.value,
+            given.used,
+            given.written,
+            controls.map(|entry| entry[1]).collect(),
+        )
+    }
+
+    #[test]
+    fn the_examples_of_r_1() {
+        let answers = [&[1, 0][..], &[2; 255], &[0x80, 1, 0, 2, 0x20]].concat();
+        let case = transaction(&[256]).zeros(256).answers(&answers);
+        let controls = vec![0x01FF_20A0, 0x0201_0000];
+        assert_eq!(run(&case), (0, 0, 262, 521, controls));
+
+        let case = transaction(&[1, 0x1_0100]).zeros(257).ten_bit(0x123);
+        let controls = vec![0x0001_2923, 0x01FF_3D23, 0x0201_0400];
+        assert_eq!(run(&case.goes_through()), (0, 0, 522, 527, controls));
+
+        let case = transaction(&[0]).answers(&[1, 0, 0x20]);
+        assert_eq!(run(&case), (0, 0, 3, 5, vec![0x0200_20A0]));
+    }
+
+    #[test]
+    fn long_operations_are_refused_as_nothing_else() {
+        let refusal = |operations: &[u32], length: usize| {
+            let case = transaction(operations).zeros(length);
+            let mut saved = [0; SAVED];
+            begin(
+                &(&case.asked).into(),
+                bytes(operations),
+                &case.buffer,
+                &mut saved,
+            )
+        };
+        assert_eq!(refusal(&[256], 256), 0);
+        assert_eq!(refusal(&[65_535], 65_535), 0);
+        assert_eq!(refusal(&[32_768; 2], 65_536), 11);
+        assert_eq!(refusal(&[32_768; 2], 65_535), 10);
+        assert_eq!(refusal(&[1_021; 64], 64 * 1_021), 0);
+        assert_eq!(refusal(&[256; 65], 65 * 256), 10);
     }
 }

@@ -12,7 +12,9 @@ mod long;
 mod polls;
 mod progress;
 mod room;
+mod saved;
 mod show;
+mod shown;
 mod truth;
 mod walk;
 mod words;
@@ -81,7 +83,7 @@ impl Comparison {
     }
 
     /// The fixed sample of calls, each cut in several ways; those that configure a target by the Rust's
-    /// setters in every way; and an example of everything that the Rust does with refused ones.
+    /// setters in every way; and an example of everything that the Rust does otherwise.
     fn sample(&mut self) -> Result<(), Stop> {
         self.progress.part = "the sample".to_string();
         let calls = sample::calls();
@@ -108,6 +110,7 @@ impl Comparison {
 
     fn long(&mut self) -> Result<(), Stop> {
         long::all(self)?;
+        saved::all(self)?;
         self.long = true;
         Ok(())
     }

@@ -8,7 +8,7 @@ mod clock;
 
 use std::hint::black_box;
 
-use oracle::{run_over, RegisterBlock};
+use oracle::{cut, run_over, RegisterBlock};
 
 use crate::calls::build::{call, counted, transaction, READ};
 use crate::calls::case::Case;
@@ -67,6 +67,10 @@ fn workloads() -> Vec<(String, Case)> {
     let mut add = |name: &str, case| all.push((name.to_string(), case));
     add("one operation, 515 accesses", write(&[255], 0));
     add("64 operations, 515 accesses", write(&short, 0));
+    add("write of 65,535 bytes, one operation", write(&[65_535], 0));
+    let mut most = [0; 64];
+    most[63] = 65_535;
+    add("63 empty writes and one of 65,535 bytes", write(&most, 0));
     for length in [1, 65_535] {
         let name = format!("target write of {length} bytes");
         add(&name, transmit(10, length, 0));
@@ -91,12 +95,13 @@ fn start(answers: &mut Vec<u32>, idle: usize) {
 
 fn write(operations: &[u32], idle: usize) -> Case {
     let mut answers = Vec::new();
-    for (place, &length) in operations.iter().enumerate() {
+    let pieces = cut(operations);
+    for (place, &length) in pieces.iter().enumerate() {
         start(&mut answers, idle);
         for _ in 0..length {
             wait(&mut answers, idle, TXE | TXIS);
         }
-        let last = place + 1 == operations.len();
+        let last = place + 1 == pieces.len();
         wait(&mut answers, idle, TXE | if last { STOPF } else { TCR });
     }
     let length: u32 = operations.iter().sum();

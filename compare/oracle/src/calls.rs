@@ -1,18 +1,21 @@
 //! Document 01's calls, as a caller of the oracle describes and gets them back.
 
+use std::borrow::Cow;
+
 use crate::panics::{catch, Left, Panic};
 use crate::{Access, RegisterBlock};
 
 /// A call as document 01 describes it. Only the fields of the call's own are looked at.
-#[derive(Clone, Copy, Debug, Default)]
+#[derive(Clone, Debug, Default)]
 pub struct Description<'a> {
     /// 1 to 15, or 24 to 29 for the manual forms of 8 to 13.
     pub call: u32,
     /// The address of 7. A 7-bit one is a byte to the driver.
     pub address: u16,
     pub ten_bit: bool,
-    /// The operations of 7: length in bits 0 to 15, bit 16 set for a read.
-    pub operations: &'a [u32],
+    /// The operations of 7 as the driver is given them: length in bits 0 to 15, bit 16 set for a
+    /// read. It panics at one of over 255 bytes; [`crate::cut()`] has them shorter.
+    pub operations: Cow<'a, [u32]>,
     /// What 4 and 5 switch: 0 general, 1 primary, 2 secondary.
     pub listen: u32,
     /// The TIMINGR word of 1 and 2.

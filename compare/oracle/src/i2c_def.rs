@@ -128,7 +128,7 @@ fn listen_event(kind: u32) -> TargetListenEvent {
 /// Call 7.
 fn transact(i2c: I2C1, description: &Description, mut buffer: &mut [u8]) -> Result<(), Error> {
     let mut operations = Vec::with_capacity(description.operations.len());
-    for word in description.operations {
+    for word in description.operations.iter() {
         let (bytes, rest) = buffer.split_at_mut((word & 0xFFFF) as usize);
         buffer = rest;
         operations.push(if word & 0x1_0000 == 0 {

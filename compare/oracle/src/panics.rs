@@ -33,7 +33,7 @@ pub enum PanicKind {
     NoSetup,
     /// The secondary address's mask plus 1 does not fit its `u8`.
     Mask,
-    /// An operation has over 255 bytes.
+    /// An operation has over 255 bytes: the list was not cut.
     Long,
     /// An AutoAck transfer has no byte.
     Empty,
@@ -54,9 +54,8 @@ impl PanicKind {
             PanicKind::SpeedLow => 5,
             PanicKind::NoSetup => 6,
             PanicKind::Mask => 8,
-            PanicKind::Long => 9,
             PanicKind::Empty => 11,
-            PanicKind::NackAtOnce | PanicKind::Unknown => return None,
+            PanicKind::Long | PanicKind::NackAtOnce | PanicKind::Unknown => return None,
         })
     }
 

@@ -1,7 +1,8 @@
-//! Document 01's refusals of a call, read from its table alone: the driver has no such checks. And
-//! which calls the driver's types can express, refused or not.
+//! Document 01's refusals of a call, read from its table alone, without row 9, which document 02
+//! takes out of use: the driver has no such checks. And which calls the driver's types can
+//! express, refused or not.
 
-use crate::{Configuration, Description};
+use crate::{cut, Configuration, Description};
 
 /// A call as it may be asked for, right or wrong.
 #[derive(Clone, Debug, Default, PartialEq, Eq)]
@@ -32,8 +33,6 @@ impl Asked {
             Some(8)
         } else if self.call == 7 && self.is_list_wrong(length) {
             Some(10)
-        } else if self.call == 7 && self.lengths().any(|length| length > 255) {
-            Some(9)
         } else if length > 65_535 || length == 0 && matches!(self.call, 9..=12) {
             Some(11)
         } else {
@@ -79,8 +78,9 @@ impl Asked {
         self.call != 1 || self.configured
     }
 
-    /// The call in the driver's types, where a buffer of this length is lent. They cannot express
-    /// numbers that are not listed or too wide for them, and lists that are no slices of the buffer.
+    /// The call in the driver's types, where a buffer of this length is lent, with its list already
+    /// cut. They cannot express numbers that are not listed or too wide for them, and lists that
+    /// are no slices of the buffer.
     pub fn description(&self, length: usize) -> Option<Description<'_>> {
         if !self.is_listed() || self.call == 7 && !self.is_sliced(length) {
             return None;
@@ -98,7 +98,7 @@ impl Asked {
             call: self.call,
             address,
             ten_bit: self.ten_bit,
-            operations: &self.operations,
+            operations: cut(&self.operations),
             listen: self.listen,
             timingr: self.timingr,
             configuration,
@@ -159,9 +159,34 @@ mod tests {
         assert_eq!(transaction(0, false, &[0; 64]).refusal(0), None);
         assert_eq!(transaction(0, false, &[0; 65]).refusal(0), Some(10));
         assert_eq!(transaction(0, false, &[0x2_0000]).refusal(0), Some(10));
-        assert_eq!(transaction(0, false, &[256]).refusal(255), Some(10));
-        assert_eq!(transaction(0, false, &[256]).refusal(256), Some(9));
         assert_eq!(transaction(0, false, &[0x1_00FF, 1]).refusal(256), None);
+    }
+
+    #[test]
+    fn long_operations_are_no_refusal() {
+        let refusal =
+            |operations: &[u32], length| transaction(0, false, operations).refusal(length);
+        assert_eq!(refusal(&[256], 256), None);
+        assert_eq!(refusal(&[256], 255), Some(10));
+        assert_eq!(refusal(&[0x1_FFFF], 65_535), None);
+        assert_eq!(refusal(&[65_535, 0x1_0001], 65_536), Some(11));
+        assert_eq!(refusal(&[32_768; 2], 65_536), Some(11));
+        assert_eq!(refusal(&[32_768; 2], 65_535), Some(10));
+        assert_eq!(refusal(&[65_535; 64], 64 * 65_535), Some(11));
+        // 64 counts operations: of these the cut list has 320 pieces, then 325.
+        assert_eq!(refusal(&[1_021; 64], 64 * 1_021), None);
+        assert_eq!(refusal(&[1_021; 65], 65 * 1_021), Some(10));
+        assert_eq!(
+            transaction(128, false, &[32_768; 2]).refusal(65_536),
+            Some(8)
+        );
+    }
+
+    #[test]
+    fn the_driver_is_given_the_list_already_cut() {
+        let asked = transaction(0, false, &[256, 0x1_0001]);
+        let description = asked.description(257).unwrap();
+        assert_eq!(*description.operations, [255, 1, 0x1_0001]);
     }
 
     #[test]

@@ -3,7 +3,9 @@
 //! A log tells the answers too: they are the values of its reads. At the end stands what the driver
 //! does where document 01 refuses or counts otherwise: the rows of docs/DIFFERENCES.md.
 
-use oracle::{run, Access, Configuration, Description, Outcome, PanicKind, WAYS};
+use std::borrow::Cow;
+
+use oracle::{cut, run, Access, Asked, Configuration, Description, Outcome, PanicKind, WAYS};
 use Outcome::*;
 
 const CR1: u32 = 0x00;
@@ -87,7 +89,7 @@ fn check_bytes(call: u32, before: &[u8], log: &[Access], ends: (Outcome, u32), a
     assert_eq!(buffer, after);
 }
 
-/// Call 7 to address 0x50, or to 0x2A5 if 10-bit.
+/// Call 7 to address 0x50, or to 0x2A5 if 10-bit, with its list already cut.
 fn check_transaction(
     ten_bit: bool,
     operations: &[u32],
@@ -100,7 +102,7 @@ fn check_transaction(
         call: 7,
         address: if ten_bit { 0x2A5 } else { 0x50 },
         ten_bit,
-        operations,
+        operations: cut(operations),
         ..Default::default()
     };
     let mut buffer = before.to_vec();
@@ -338,6 +340,124 @@ fn call_7_reloads_for_the_same_direction() {
     check_transaction(false, &[READ | 1, READ], &[0], &log, Done, &[0x11]);
 }
 
+/// Holds a call that ends well to its value, its answers used, its accesses, and its words written
+/// to CR2.
+fn check_example(
+    asked: &Asked,
+    length: usize,
+    answers: &[u32],
+    numbers: (u32, usize, usize),
+    controls: &[u32],
+) {
+    assert_eq!(asked.refusal(length), None);
+    let description = asked.description(length).unwrap();
+    let run = run(&description, &mut vec![0; length], answers);
+    assert_eq!(run.outcome, Done);
+    assert_eq!((run.value, run.used, run.log.len()), numbers);
+    let written = run.log.iter().filter(|access| access[0] == 0x100 + CR2);
+    let written: Vec<u32> = written.map(|access| access[1]).collect();
+    assert_eq!(written, controls);
+}
+
+fn transaction(address: u32, ten_bit: bool, operations: &[u32]) -> Asked {
+    Asked {
+        call: 7,
+        address,
+        ten_bit,
+        operations: operations.to_vec(),
+        ..Default::default()
+    }
+}
+
+#[test]
+fn the_examples_of_r_1() {
+    let answers = [&[1, 0][..], &[2; 255], &[0x80, 1, 0, 2, 0x20]].concat();
+    let asked = transaction(0x50, false, &[256]);
+    let controls = [0x01FF_20A0, 0x0201_0000];
+    check_example(&asked, 256, &answers, (0, 262, 521), &controls);
+
+    let sent = [1, 0, 2, 0x40];
+    let received = [
+        &[1, 0][..],
+        &[4, 0x71].repeat(255),
+        &[0x80, 1, 0, 4, 0x72, 0x20],
+    ]
+    .concat();
+    let answers = [&sent[..], &received].concat();
+    let asked = transaction(0x123, true, &[1, READ | 256]);
+    let controls = [0x0001_2923, 0x01FF_3D23, 0x0201_0400];
+    check_example(&asked, 257, &answers, (0, 522, 527), &controls);
+
+    let asked = transaction(0x50, false, &[0]);
+    check_example(&asked, 0, &[1, 0, 0x20], (0, 3, 5), &[0x0200_20A0]);
+}
+
+/// 510 bytes are two pieces, and 511 have a third. TC and STOPF are not awaited inside an
+/// operation.
+#[test]
+fn call_7_reloads_inside_an_operation() {
+    let piece = |control, count, endings: &[u32]| {
+        let mut log = vec![w(CR2, control), r(ISR, TXE), r(CR2, 0)];
+        log.extend([r(ISR, TXIS), w(TXDR, 0x12)].repeat(count));
+        log.extend(endings.iter().map(|&word| r(ISR, word)));
+        log
+    };
+    let first = piece(0x01FF_20A0, 255, &[TC | STOPF, TCR]);
+    let stop = [w(ICR, STOPF)];
+    let second = piece(0x02FF_0000, 255, &[TC | TCR, STOPF]);
+    let log = [&first[..], &second, &stop].concat();
+    check_transaction(false, &[510], &[0x12; 510], &log, Done, &[0x12; 510]);
+    let second = piece(0x01FF_0000, 255, &[TC | STOPF, TCR]);
+    let third = piece(0x0201_0000, 1, &[TC | TCR, STOPF]);
+    let log = [&first[..], &second, &third, &stop].concat();
+    check_transaction(false, &[511], &[0x12; 511], &log, Done, &[0x12; 511]);
+}
+
+/// The next operation goes on by a reload if it has the same direction, else by a repeated start,
+/// and an error in a later piece ends the call as in any other.
+#[test]
+fn call_7_goes_on_after_a_long_operation() {
+    let receives = |control, count, ending| {
+        let mut log = vec![w(CR2, control), r(ISR, TXE), r(CR2, 0)];
+        log.extend([r(ISR, RXNE), r(RXDR, 0x71)].repeat(count));
+        log.push(r(ISR, ending));
+        log
+    };
+    let long = [
+        receives(0x01FF_24A0, 255, TCR),
+        receives(0x0101_0400, 1, TCR),
+        receives(0x0200_0400, 0, STOPF),
+        vec![w(ICR, STOPF)],
+    ]
+    .concat();
+    let bytes = [0x71; 256];
+    check_transaction(false, &[READ | 256, READ], &[0; 256], &long, Done, &bytes);
+    let log = [
+        receives(0x01FF_24A0, 255, TCR),
+        receives(0x0001_0400, 1, TC),
+        vec![w(CR2, 0x0200_20A0), r(ISR, ARLO), w(ICR, ARLO)],
+        vec![r(ISR, STOPF), w(ICR, STOPF)],
+    ]
+    .concat();
+    check_transaction(
+        false,
+        &[READ | 256, 0],
+        &[0; 256],
+        &log,
+        Arbitration,
+        &bytes,
+    );
+    let log = [
+        receives(0x01FF_24A0, 255, TCR),
+        vec![w(CR2, 0x0201_0400), r(ISR, BERR), w(ICR, BERR)],
+        vec![r(ISR, STOPF), w(ICR, STOPF)],
+    ]
+    .concat();
+    let mut left = bytes;
+    left[255] = 0;
+    check_transaction(false, &[READ | 256], &[0; 256], &log, Bus, &left);
+}
+
 #[test]
 fn call_7_flushes_after_a_nack_and_waits_for_the_stop() {
     let log = [
@@ -389,7 +509,7 @@ fn a_waiting_run_leaves_the_bytes_received_so_far() {
     let description = Description {
         call: 7,
         address: 0x50,
-        operations: &[READ | 3],
+        operations: Cow::Borrowed(&[READ | 3]),
         ..Default::default()
     };
     let mut buffer = [1, 2, 3];
@@ -675,27 +795,23 @@ fn a_nack_before_any_byte_of_a_block_panics() {
     check_panic(manual(28), 256, &log, PanicKind::NackAtOnce);
 }
 
+/// Given a list that is not cut.
 #[test]
 fn a_long_operation_panics_when_it_is_reached() {
-    let transaction = |operations| Description {
-        call: 7,
-        operations,
-        ..Default::default()
+    let check = |operations: &[u32], log: &[Access]| {
+        let description = Description {
+            call: 7,
+            operations: Cow::Borrowed(operations),
+            ..Default::default()
+        };
+        let length: u32 = operations.iter().map(|word| word & 0xFFFF).sum();
+        check_panic(description, length as usize, log, PanicKind::Long);
     };
-    check_panic(transaction(&[256]), 256, &[], PanicKind::Long);
+    check(&[256], &[]);
+    check(&[READ | 65_535], &[]);
     let first = |control, ending| [w(CR2, control), r(ISR, TXE), r(CR2, 0), r(ISR, ending)];
-    check_panic(
-        transaction(&[0, 256]),
-        256,
-        &first(0x0100_2000, TCR),
-        PanicKind::Long,
-    );
-    check_panic(
-        transaction(&[0, READ | 256]),
-        256,
-        &first(0x2000, TC),
-        PanicKind::Long,
-    );
+    check(&[0, 256], &first(0x0100_2000, TCR));
+    check(&[0, READ | 256], &first(0x2000, TC));
 }
 
 #[test]
@@ -788,7 +904,7 @@ fn wide_addresses_of_a_transaction_are_cut_to_sadd() {
             call: 7,
             address,
             ten_bit,
-            operations: &[1],
+            operations: Cow::Borrowed(&[1]),
             ..Default::default()
         };
         let log = [
@@ -817,10 +933,39 @@ fn operations_after_the_64th_are_performed() {
     log.push(w(ICR, STOPF));
     let description = Description {
         call: 7,
-        operations: &[0; 65],
+        operations: Cow::Borrowed(&[0; 65]),
         ..Default::default()
     };
     check(description, &mut [], &log, (Done, 0));
+}
+
+/// Given a list that is cut.
+#[test]
+fn lists_of_over_65535_bytes_are_transferred() {
+    let piece = |control, size, ending| {
+        let mut log = vec![w(CR2, control), r(ISR, TXE), r(CR2, 0)];
+        log.extend([r(ISR, TXIS), w(TXDR, 0x12)].repeat(size));
+        log.push(r(ISR, ending));
+        log
+    };
+    let whole = piece(0x01FF_0000, 255, TCR);
+    let log = [
+        &piece(0x01FF_2000, 255, TCR),
+        &whole.repeat(127)[..],
+        &piece(0x0180_0000, 128, TCR),
+        &whole.repeat(128),
+        &piece(0x0280_0000, 128, STOPF),
+        &[w(ICR, STOPF)],
+    ]
+    .concat();
+    let description = Description {
+        call: 7,
+        operations: cut(&[32_768; 2]),
+        ..Default::default()
+    };
+    let mut buffer = vec![0x12; 65_536];
+    check_whole(description, &mut buffer, &log, (Done, 0));
+    assert!(buffer.iter().all(|&it| it == 0x12));
 }
 
 /// A transfer of a full buffer, in either mode, after its event.

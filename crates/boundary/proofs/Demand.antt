@@ -29,7 +29,7 @@ use Rattle.calls.specs.declared.Call.{Call}
 use Rattle.calls.specs.declared.Description.{Description}
 use Rattle.calls.specs.declared.Outcome.the-variants.{Done, Bus, Arbitration, Nack, Stopped as WasStopped, ExpectedWrite, ExpectedRead, EventRead, EventWrite, EventStop}
 use Rattle.calls.specs.declared.Refusal.{Refusal}
-use Rattle.calls.specs.declared.Refusal.the-variants.{Address, Long, List as BadList, Buffer, NoSuchCall, SavedCall as BadSavedCall}
+use Rattle.calls.specs.declared.Refusal.the-variants.{Address, List as BadList, Buffer, NoSuchCall, SavedCall as BadSavedCall}
 use Rattle.calls.specs.declared.Report.{Report}
 use Rattle.calls.specs.declared.Report.the-variants.{Over, Full, Waiting, Refused}
 use Rattle.calls.specs.declared.SavedCall.{SavedCall}
@@ -80,7 +80,6 @@ read-back (Waiting Icr) = record { report = λ u w. refl; refusal = refl }
 read-back (Waiting Rxdr) = record { report = λ u w. refl; refusal = refl }
 read-back (Waiting Txdr) = record { report = λ u w. refl; refusal = refl }
 read-back (Refused Address) = record { report = λ u w. refl; refusal = refl }
-read-back (Refused Long) = record { report = λ u w. refl; refusal = refl }
 read-back (Refused BadList) = record { report = λ u w. refl; refusal = refl }
 read-back (Refused Buffer) = record { report = λ u w. refl; refusal = refl }
 read-back (Refused NoSuchCall) = record { report = λ u w. refl; refusal = refl }
@@ -318,7 +317,6 @@ begin-said B (Accepted c) e = record { refusal = ap (λ (x : BeginLeft). x .refu
 -- ---- the theorem
 pub positive : (r : Refusal) → 0 < refusalNumber r
 positive Address = lit< tt
-positive Long = lit< tt
 positive BadList = lit< tt
 positive Buffer = lit< tt
 positive NoSuchCall = lit< tt

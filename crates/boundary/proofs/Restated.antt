@@ -1,7 +1,7 @@
 -- What the contracts of the seven exported functions say, again and in other words. Nothing rests on this file: it is proved so
 -- that a contract that loses a part is noticed. Assumes nothing.
 use Prim.Native.Nat.{ℕ, _/_, _^_, _*_, _≤_, _<_}
-use mathlib.Core.Path.{_≡_, refl, sym, ap, _∙_}
+use mathlib.Core.Path.{_≡_, refl, ap, _∙_}
 use mathlib.Core.Bool.{Bool, true, false, not, _&&_, _||_}
 use mathlib.Core.List.{List, [], _∷_}
 use lib.Dec.{T, eqb, ltb, leb, ltb→lt, lt→ltb, lit<}

@@ -1,6 +1,6 @@
 -- Demand 3 across the C boundary: a call of `huskerivory_begin`, a list of calls of `huskerivory_advance` after it, and what
 -- holds of them all together (document 01, "A call, from its entry"). Assumes nothing.
-use Prim.Native.Nat.{ℕ, _-_, _*_}
+use Prim.Native.Nat.{ℕ, _*_}
 use mathlib.Core.Path.{_≡_}
 use mathlib.Core.Bool.{Bool, cond, not}
 use mathlib.Core.List.{List, [], _∷_, _++_, map}
@@ -12,12 +12,12 @@ use Rattle.registers.specs.declared.Register.the-variants.{Cr1, Cr2, Oar1, Oar2
 use Rattle.calls.specs.Advances.{Advance, NoRun}
 use Rattle.calls.specs.Calls.{Request, callNumber}
 use Rattle.calls.specs.Demand.{Kept}
-use Rattle.calls.specs.Outcomes.{refusedNumber, reportNumber, reportValue, awaitedOf}
+use Rattle.calls.specs.Outcomes.{refusalNumber, refusedNumber, reportNumber, reportValue, awaitedOf}
 use Rattle.calls.specs.Refusals.{requestOf}
 use Rattle.calls.specs.Steps.{beginOf}
 use Rattle.calls.specs.declared.Call.{Call}
 use Rattle.calls.specs.declared.Refusal.{Refusal}
-use Rattle.calls.specs.declared.Refusal.the-variants.{Address, Long, List as BadList, Buffer, NoSuchCall, SavedCall as BadSavedCall}
+use Rattle.calls.specs.declared.Refusal.the-variants.{Address, List as BadList, Buffer, NoSuchCall, SavedCall as BadSavedCall}
 use Rattle.calls.specs.declared.Report.{Report}
 use Rattle.calls.specs.declared.Report.the-variants.{Over, Full, Waiting, Refused}
 use Rattle.saved.specs.Saved.{outcomes, savedBytes, savedIn}
@@ -82,9 +82,13 @@ BytesAfter B Cs = BytesInTurn (B .description) (B .operations) (B .savedLeft) (B
 
 -- ---- What an advance says: its numbers as a report, and its bytes as words.
 
--- the refusals from number 8 on, as document 01's table has them
+-- the refusal of a number of document 01's table
 abbrev pub refusals : List Refusal
-refusals = Address ∷ Long ∷ BadList ∷ Buffer ∷ NoSuchCall ∷ BadSavedCall ∷ []
+refusals = Address ∷ BadList ∷ Buffer ∷ NoSuchCall ∷ BadSavedCall ∷ []
+
+abbrev pub refusalIn : List Refusal → ℕ → Refusal
+refusalIn [] n = BadSavedCall
+refusalIn (r ∷ rs) n = cond (eqb n (refusalNumber r)) r (refusalIn rs n)
 
 -- the register of an offset
 abbrev pub registers : List Register
@@ -98,7 +102,7 @@ registerIn (r ∷ rs) offset = cond (eqb offset (offsetOf r)) r (registerIn rs o
 -- last. That no other numbers come up is a part of what holds: `ReadExactly`, below.
 abbrev pub reports : ℕ → ℕ → List Report
 reports v awaited =
-    map Over (outcomes v) ++ Waiting (registerIn registers awaited) ∷ Refused (getD refusals (v - 8) BadSavedCall) ∷ Full ∷ []
+    map Over (outcomes v) ++ Waiting (registerIn registers awaited) ∷ Refused (refusalIn refusals v) ∷ Full ∷ []
 
 abbrev pub reportIn : ℕ → Answer → Report
 reportIn report a = getD (reports (a .value) (a .awaited)) report Full

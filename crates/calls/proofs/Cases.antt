@@ -24,7 +24,7 @@ use Rattle.calls.specs.declared.Description.{Description}
 use Rattle.calls.specs.declared.Outcome.{Outcome}
 use Rattle.calls.specs.declared.Outcome.the-variants.{Done, Bus, Arbitration, Nack, Stopped, ExpectedWrite, ExpectedRead, EventRead, EventWrite, EventStop}
 use Rattle.calls.specs.declared.Report.{Report}
-use Rattle.calls.specs.declared.Report.the-variants.{Over}
+use Rattle.calls.specs.declared.Report.the-variants.{Over, Full}
 use Rattle.calls.specs.declared.SavedCall.{SavedCall}
 use Rattle.calls.specs.declared.Step.the-variants.{Wait}
 
@@ -87,6 +87,15 @@ resumed s d ops b o log after =
 abbrev ran : Description → List ℕ → List ℕ → Outcome → List Entry → List ℕ → Row
 ran d ops b o log after = resumed (begunOf d ops (length b) .saved) d ops b o log after
 
+-- the first accesses alone: the log has no place more
+abbrev starts : Description → List ℕ → List ℕ → List Entry → List ℕ → Row
+starts d ops b log after =
+    let l : List ℕ = answersIn log in
+    record {
+      asked = run d ops b (begunOf d ops (length b) .saved) l (length log);
+      answered = run (record { report = Full; used = length l; log = log; buffer = after });
+    }
+
 abbrev transactions : List Row
 transactions =
     -- document 01's run
@@ -130,6 +139,26 @@ transactions =
     ∷ ran (plain 7 0x50) (0x10001 ∷ []) (0 ∷ []) Stopped
     (w 0x04 0x020124A0 ∷ r 0x18 1 ∷ r 0x04 0 ∷ r 0x18 0x10 ∷ r 0x18 8 ∷ r 0x18 1 ∷ r 0x18 0x21 ∷ w 0x1C 0x20 ∷ [])
     (0 ∷ [])
+    ∷ []
+
+-- Document 02, R-1: the beginning of each run and, from the last byte of a piece on, its end.
+abbrev long : List Row
+long =
+    -- 256 bytes, 521 accesses: 255 with RELOAD, then one with AUTOEND and no START, SADD or RD_WRN; TCR ends the first piece and TC does not
+    starts (plain 7 0x50) (256 ∷ []) (replicate 256 0) (w 0x04 0x01FF20A0 ∷ r 0x18 1 ∷ r 0x04 0 ∷ r 0x18 2 ∷ w 0x28 0 ∷ []) (replicate 256 0)
+    ∷ resumed (savedAt (freshAt 7 Wait) Wait 0 254 0 (Done 0) 511) (plain 7 0x50) (256 ∷ []) (replicate 256 0) (Done 0)
+    (r 0x18 2 ∷ w 0x28 0 ∷ r 0x18 0x40 ∷ r 0x18 0x80 ∷ w 0x04 0x02010000 ∷ r 0x18 1 ∷ r 0x04 0 ∷ r 0x18 2 ∷ w 0x28 0 ∷ r 0x18 0x20 ∷ w 0x1C 0x20 ∷ [])
+    (replicate 256 0)
+    -- ten bits, a write of 1 and a read of 256: HEAD10R stands where the read starts, and RD_WRN in both of its pieces
+    ∷ starts (description 7 0x123 AddressMode10bit 0 Unconfigured) (1 ∷ 0x10100 ∷ []) (replicate 257 0x11)
+    (w 0x04 0x00012923 ∷ r 0x18 1 ∷ r 0x04 0 ∷ r 0x18 2 ∷ w 0x28 0x11 ∷ r 0x18 0x40 ∷ w 0x04 0x01FF3D23 ∷ r 0x18 1 ∷ r 0x04 0 ∷ r 0x18 4 ∷ r 0x24 0x22 ∷ [])
+    (0x11 ∷ 0x22 ∷ replicate 255 0x11)
+    ∷ resumed (savedAt (freshAt 7 Wait) Wait 1 254 0 (Done 0) 517)
+    (description 7 0x123 AddressMode10bit 0 Unconfigured) (1 ∷ 0x10100 ∷ []) (replicate 257 0x11) (Done 0)
+    (r 0x18 4 ∷ r 0x24 0x22 ∷ r 0x18 0x80 ∷ w 0x04 0x02010400 ∷ r 0x18 1 ∷ r 0x04 0 ∷ r 0x18 4 ∷ r 0x24 0x33 ∷ r 0x18 0x20 ∷ w 0x1C 0x20 ∷ [])
+    (replicate 255 0x11 ++ 0x22 ∷ 0x33 ∷ [])
+    -- one operation of no byte is an empty piece
+    ∷ ran (plain 7 0x50) (0 ∷ []) [] (Done 0) (w 0x04 0x020020A0 ∷ r 0x18 1 ∷ r 0x04 0 ∷ r 0x18 0x20 ∷ w 0x1C 0x20 ∷ []) []
     ∷ []
 
 abbrev events : List Row
@@ -240,7 +269,7 @@ controls =
     ∷ []
 
 abbrev table : List Row
-table = map fromTiming cases ++ transactions ++ events ++ transfers ++ controls
+table = map fromTiming cases ++ transactions ++ long ++ events ++ transfers ++ controls
 
 proved-cases : map (λ (r : Row). answerTo (r .asked)) table ≡ map (λ (r : Row). r .answered) table
 unfolding timingOf bandOf inBandOf equalAt doubleAt getOf bitsAt putOf withBits unpackOf isCall isKind manual piecesFor lookupOf verdictOf checkOf groupTaken accepts begunOf advanceFrom runOf cr2Of timingrOf oar1Of oar2Of alterOf accessOf afterOf beginOf

@@ -5,7 +5,7 @@ use native.Mathlib.Omega.{arith}
 use mathlib.Core.Path.{_≡_, refl, _∙_}
 use mathlib.Core.Bool.{Bool, true, false, not, _||_}
 use mathlib.Core.List.{List, [], _∷_, append-nil}
-use lib.Dec.{T, eqb, ltb, leb, leb→le, ltb→lt}
+use lib.Dec.{T, eqb, leb, leb→le, ltb→lt}
 use lib.ListN.{length, drop, set, take-append-drop}
 use lib.Seq.{drop-length}
 use Rattle.registers.specs.declared.Register.{Register}

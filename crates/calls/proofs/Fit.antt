@@ -8,7 +8,7 @@ use mathlib.Core.List.{List, [], _∷_}
 use lib.Dec.{T, eqb, ltb, eqb→eq, nltb→le}
 use lib.ListN.{length}
 use Rattle.calls.specs.Calls.{callNumber, transaction, manual, receives, transmits}
-use Rattle.calls.specs.Refusals.{noSuchCall, addressWide, total, anyOf, strangeBits, listWrong, operationLong, bufferWrong, verdictOf, requestOf, verdictBy, listed, lookupIn, lookupOf, checkOf}
+use Rattle.calls.specs.Refusals.{noSuchCall, addressWide, total, anyOf, strangeBits, listWrong, bufferWrong, verdictOf, requestOf, verdictBy, listed, lookupIn, lookupOf, checkOf}
 use Rattle.calls.specs.declared.Call.{Call}
 use Rattle.calls.specs.declared.Description.{Description}
 use Rattle.calls.specs.declared.Lookup.{Lookup}
@@ -45,9 +45,8 @@ passed c₀ c d ops n f =
     by-test P (noSuchCall c₀ d) (λ _ e. refused e) (λ _.
     by-test P (addressWide c₀ d) (λ _ e. refused e) (λ _.
     by-test P (listWrong c₀ ops n) (λ _ e. refused e) (λ i.
-    by-test P (operationLong c₀ ops) (λ _ e. refused e) (λ _.
     by-test P (bufferWrong c₀ n) (λ _ e. refused e) (λ k e.
-    let same : c ≡ c₀ = cc in rw same (record { number = f; list = i; buffer = k }))))))
+    let same : c ≡ c₀ = cc in rw same (record { number = f; list = i; buffer = k })))))
   where
     P : Verdict → Type 0
     P v = v ≡ Accepted c → Passed c d ops n

@@ -10,6 +10,7 @@ pub mod Bytes
 pub mod Moved
 pub mod Counts
 pub mod Fit
+pub mod AlreadyCut
 pub mod Cut
 pub mod Demand
 pub mod Joined

@@ -6,13 +6,14 @@ use native.Mathlib.Omega.{arith}
 use mathlib.Core.Logic.{_≢_}
 use mathlib.Core.Path.{_≡_, refl, sym, ap, ap₂, _∙_}
 use mathlib.Core.Bool.{Bool, true, false, cond, not, _||_, Bool·beq}
-use mathlib.Core.List.{List, [], _∷_, _++_, map, append-nil}
+use mathlib.Core.List.{List, [], _∷_, _++_, append-nil, append-assoc}
 use lib.Dec.{T, T-not, eqb, eqb→eq, eqb-refl, not-T}
 use lib.ListN.{length, getD, set, take, drop, length-set}
 use lib.Seq.{getD-set-other, getD-set-same, drop-cons, take-length}
 use Rattle.calls.specs.Bytes.{range, placesFrom, bytesAt}
 use Rattle.calls.specs.Calls.{Request, transaction, manual, receives, transmits}
-use Rattle.calls.specs.Pieces.{startFrom, Piece, pieceOf, blocksOf, piecesFor, piecesOf, pieceAt}
+use Rattle.calls.specs.AlreadyCut.{sizes}
+use Rattle.calls.specs.Pieces.{startFrom, Piece, pieceOf, blocksOf, cutOf, listPieces, piecesFor, piecesOf, pieceAt}
 use Rattle.calls.specs.Refusals.{total, anyOf}
 use Rattle.calls.specs.declared.Call.{Call}
 use Rattle.calls.specs.declared.SavedCall.{SavedCall}
@@ -78,10 +79,6 @@ ahead-this w at (p ∷ ps) (suc i) j h l = ahead-this w (at + p .size) ps i j h 
 
 -- ---- Where they lie
 
-abbrev pub sizes : List Piece → ℕ
-sizes [] = 0
-sizes (p ∷ ps) = p .size + sizes ps
-
 place-inside : (at : ℕ) (ps : List Piece) (i j : ℕ) → j < pieceAt ps i .size → startFrom at ps i + j < at + sizes ps
 place-inside at [] i j h = absurd (omega arith)
 place-inside at (p ∷ ps) zero j h = omega arith
@@ -92,14 +89,23 @@ sizes-blocks w zero n h = omega arith
 sizes-blocks w (suc f) zero h = refl
 sizes-blocks w (suc f) (suc n) h = omega (arith, sizes-blocks w f (suc n - 255) (omega arith))
 
-pub sizes-operations : (os : List ℕ) → sizes (map pieceOf os) ≡ total os
-sizes-operations [] = refl
-sizes-operations (o ∷ os) = omega (arith, sizes-operations os)
+pub sizes-cut : (p : Piece) → sizes (cutOf p) ≡ p .size
+sizes-cut p =
+    by-test (λ ps. sizes ps ≡ p .size) (eqb (p .size) 0) (λ _. omega arith) (λ _. sizes-blocks (p .reads) (p .size) (p .size) (omega arith))
+
+pub sizes-append : (ps rs : List Piece) → sizes (ps ++ rs) ≡ sizes ps + sizes rs
+sizes-append [] rs = omega arith
+sizes-append (p ∷ ps) rs = omega (arith, sizes-append ps rs)
+
+pub sizes-list : (os : List ℕ) → sizes (listPieces os) ≡ total os
+sizes-list [] = refl
+sizes-list (o ∷ os) =
+    sizes-append (cutOf (pieceOf o)) (listPieces os) ∙ ap₂ _+_ (sizes-cut (pieceOf o)) (sizes-list os)
 
 pub sizes-for : (c : Call) (ops : List ℕ) (n : ℕ) → (T (transaction c) → total ops ≡ n) → sizes (piecesFor c ops n) ≤ n
 unfolding piecesFor
 sizes-for c ops n h =
-    by-test P (transaction c) (λ x. omega (arith, sizes-operations ops, h x)) (λ _.
+    by-test P (transaction c) (λ x. omega (arith, sizes-list ops, h x)) (λ _.
     by-test P (receives c || transmits c)
     (λ _. by-test P (manual c) (λ _. omega (arith, sizes-blocks (receives c) n n (omega arith))) (λ _. omega arith))
     (λ _. omega arith))
@@ -263,6 +269,20 @@ block-places w u at (suc f) (suc n) h =
     joined : (c : Bool) (ks ls : List ℕ) → cond c ks [] ++ cond c ls [] ≡ cond c (ks ++ ls) []
     joined true ks ls = refl
     joined false ks ls = refl
+
+-- an operation's places are one range, however it is cut, and a list's are its operations' in turn
+pub cut-places : (w : Bool) (at : ℕ) (p : Piece) → placesFrom w at (cutOf p) ≡ cond (Bool·beq (p .reads) w) (range at (p .size)) []
+cut-places w at p =
+    by-test (λ ps. placesFrom w at ps ≡ cond (Bool·beq (p .reads) w) (range at (p .size)) []) (eqb (p .size) 0)
+    (λ _. append-nil _) (λ _. block-places w (p .reads) at (p .size) (p .size) (omega arith))
+
+pub places-append : (w : Bool) (at : ℕ) (ps rs : List Piece) →
+    placesFrom w at (ps ++ rs) ≡ placesFrom w at ps ++ placesFrom w (at + sizes ps) rs
+places-append w at [] rs = let e : at + 0 ≡ at = omega arith in rw e
+places-append w at (p ∷ ps) rs =
+    let e : at + p .size + sizes ps ≡ at + (p .size + sizes ps) = omega arith in
+    rw (places-append w (at + p .size) ps rs, e)
+    (sym (append-assoc (cond (Bool·beq (p .reads) w) (range at (p .size)) []) (placesFrom w (at + p .size) ps) _))
 
 pub transfer-places : (q : Request) (w : Bool) → T (not (transaction (q .call))) →
     placesFrom w 0 (piecesOf q) ≡

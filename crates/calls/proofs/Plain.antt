@@ -5,7 +5,7 @@ use Prim.Native.Nat.{ℕ, zero, suc, _+_, _-_, _*_, _/_, _%_, _≤_, _<_}
 use native.Mathlib.Omega.{arith}
 use mathlib.Core.Path.{_≡_, refl, sym, ap, ap₂, _∙_}
 use mathlib.Core.Bool.{Bool, true, false, cond, not, _&&_, _||_, Bool·beq}
-use mathlib.Core.List.{List, [], _∷_, _++_, map}
+use mathlib.Core.List.{List, [], _∷_, _++_}
 use lib.Dec.{T, eqb, ltb}
 use lib.ListN.{length, getD, take, drop, replicate, getD-replicate}
 use lib.Seq.{drop-drop, ext-getD}
@@ -13,7 +13,8 @@ use Rattle.fields.specs.Field.{place, bit, getOf, flagOf}
 use Rattle.calls.specs.Advances.{Advance, Meets, isRefusal, refused, Follows, none, but, then, made, joined, given, bufferAfter, savedAfter, answersIn}
 use Rattle.calls.specs.Bytes.{range, placesFrom, bytesAt, callerBytes, readPlaces}
 use Rattle.calls.specs.Calls.{Request, callNumber, isCall, isKind, transaction, manual, receives, transmits}
-use Rattle.calls.specs.Pieces.{Piece, pieceOf, piecesFor, piecesOf}
+use Rattle.calls.specs.AlreadyCut.{sizes}
+use Rattle.calls.specs.Pieces.{Piece, pieceOf, cutOf, listPieces, piecesFor, piecesOf}
 use Rattle.calls.specs.Refusals.{listed, total}
 use Rattle.calls.specs.Run.{Entry, wordsOf, Run, runOf, asFinal, isNackClear, putOutFrom, putOut, takenIn}
 use Rattle.calls.specs.declared.Call.{Call}
@@ -25,7 +26,7 @@ use Rattle.calls.specs.declared.SavedCall.{SavedCall}
 use Rattle.calls.proofs.Cut.{two-each}
 use Rattle.calls.proofs.Every.{all, every}
 use Rattle.calls.proofs.Logic.{is-true, is-false, both, implies}
-use Rattle.calls.proofs.Places.{sizes, sizes-all, rising-places, NotIn, not-in, not-in-cons, bytes-range, bytes-all}
+use Rattle.calls.proofs.Places.{sizes-cut, sizes-all, cut-places, places-append, rising-places, NotIn, not-in, not-in-cons, bytes-range, bytes-all}
 
 -- ---- The advances
 
@@ -257,12 +258,15 @@ bytes-append b (k ∷ ks) ls = ap {B = List ℕ} (λ l. getD b k 0 ∷ l) (bytes
 
 -- the bytes at the places of the operations, from a place on
 at-operations : (w : Bool) (at : ℕ) (os b : List ℕ) → at + total os ≤ length b →
-    bytesAt b (placesFrom w at (map pieceOf os)) ≡ ofOperations w os (drop at b)
+    bytesAt b (placesFrom w at (listPieces os)) ≡ ofOperations w os (drop at b)
 at-operations w at [] b h = refl
 at-operations w at (o ∷ os) b h =
     let n : ℕ = getOf o (place 0 16) in
     rw (
-      bytes-append b (cond (Bool·beq (flagOf o (bit 16)) w) (range at n) []) (placesFrom w (at + n) (map pieceOf os)),
+      places-append w at (cutOf (pieceOf o)) (listPieces os),
+      cut-places w at (pieceOf o),
+      sizes-cut (pieceOf o),
+      bytes-append b (cond (Bool·beq (flagOf o (bit 16)) w) (range at n) []) (placesFrom w (at + n) (listPieces os)),
       at-operations w (at + n) os b (omega arith),
       drop-drop n at b,
     )

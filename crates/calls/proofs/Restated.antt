@@ -5,14 +5,17 @@ use native.Mathlib.Omega.{arith}
 use mathlib.Core.Logic.{_≢_}
 use mathlib.Core.Path.{_≡_, refl, sym, ap, ap₂, _∙_, subst}
 use mathlib.Core.Bool.{not}
-use mathlib.Core.List.{List, [], _∷_, _++_}
+use mathlib.Core.List.{List, [], _∷_, _++_, map}
 use lib.Dec.{T, T-not}
 use lib.ListN.{length, getD, drop}
 use Rattle.calls.specs.Advances.{Advance, refused, made, joined, bufferAfter, savedAfter, nobody, last, lastAccepted, Came, over, full, waiting, LastCame, NoneRefused, RefusedUntouched, AllRefused, NoRun}
+use Rattle.calls.specs.AlreadyCut.{alreadyCut, sizes, AsCut}
 use Rattle.calls.specs.Bytes.{EndedAs, bytesAt, callerBytes, readPlaces, writeCount}
 use Rattle.calls.specs.Calls.{Request, transaction, manual}
 use Rattle.calls.specs.Demand.{left, Kept, Demand3}
-use Rattle.calls.specs.Refusals.{total, requestOf, checkOf}
+use Rattle.calls.specs.Outcomes.{refusalNumber}
+use Rattle.calls.specs.Pieces.{pieceOf, cutOf, piecesFor, pieceAt}
+use Rattle.calls.specs.Refusals.{lengthOf, total, requestOf, checkOf, accepts}
 use Rattle.calls.specs.Run.{Entry, wordsOf, Uncut, uncutOf, noCall, begunOf, putOut, takenIn}
 use Rattle.calls.specs.Steps.{accessOf, beginOf}
 use Rattle.calls.specs.Next.{nextOf}
@@ -28,6 +31,7 @@ use Rattle.calls.specs.declared.SavedCall.{SavedCall}
 use Rattle.calls.specs.declared.Step.the-variants.{Ended}
 use Rattle.calls.specs.declared.Verdict.{Verdict}
 use Rattle.calls.specs.declared.Verdict.the-variants.{Accepted, Refused as Rejected}
+use Rattle.calls.proofs.AlreadyCut.{long-cards}
 use Rattle.calls.proofs.Demand.{demand-3}
 use Rattle.calls.proofs.Every.{is-eq}
 use Rattle.calls.proofs.Fit.{accepted-fit}
@@ -298,3 +302,48 @@ module _ (r : Refusal) (d : Description) (ops b : List ℕ) (As : List Advance) 
 
   pub nothing-done : (accesses As ≡ 0) × (entries As ≡ []) × (b′ ≡ b)
   nothing-done = (sym (accesses-are As) ∙ no-run .made, sym (entries-are As) ∙ no-run .joined, sym (led leads .buffer) ∙ no-run .buffer)
+
+-- ---- document 02, R-1, once more: read off `long-cards`
+
+-- a transaction's pieces and runs are those of the list already cut, which document 01 takes
+module _ (c : Call) (d : Description) (ops : List ℕ) (n : ℕ) (t : T (isTransaction c)) where
+  cut : AsCut (requestOf c d ops n)
+  cut = long-cards .as-cut (requestOf c d ops n) (rw (transaction-is c) t)
+
+  pub pieces-as-cut : piecesFor c ops n ≡ map pieceOf (alreadyCut ops)
+  pieces-as-cut = cut .pieces
+
+  pub pieces-short : (i : ℕ) → pieceAt (piecesFor c ops n) i .size ≤ 255
+  pieces-short = cut .short
+
+  pub cut-makes-up-the-buffer : total ops ≡ n → total (alreadyCut ops) ≡ n
+  cut-makes-up-the-buffer e = cut .sum ∙ e
+
+  pub run-as-cut : (k : ℕ) (s : SavedCall) (b l : List ℕ) →
+      uncutOf (requestOf c d ops n) k s b l ≡ uncutOf (requestOf c d (alreadyCut ops) n) k s b l
+  run-as-cut = cut .run
+
+  pub row-13-as-cut : (s : SavedCall) → accepts (requestOf c d ops n) s ≡ accepts (requestOf c d (alreadyCut ops) n) s
+  row-13-as-cut = cut .row-13
+
+-- Of an operation of m bytes: pieces of 255, and a last one of the rest; all go its way. Of no byte there is one, which is empty.
+module _ (o m : ℕ) (is : lengthOf o ≡ m) where
+  pub one-at-least : 1 ≤ length (cutOf (pieceOf o))
+  one-at-least = long-cards .cuts o .some
+
+  pub make-up-the-operation : sizes (cutOf (pieceOf o)) ≡ m
+  make-up-the-operation = long-cards .cuts o .sum ∙ is
+
+  pub go-its-way : (i : ℕ) → i < length (cutOf (pieceOf o)) → pieceAt (cutOf (pieceOf o)) i .reads ≡ pieceOf o .reads
+  go-its-way = long-cards .cuts o .reads
+
+  pub full-but-the-last : (i : ℕ) → i + 1 < length (cutOf (pieceOf o)) → pieceAt (cutOf (pieceOf o)) i .size ≡ 255
+  full-but-the-last = long-cards .cuts o .full
+
+  pub within-1-and-255 : m ≢ 0 → (i : ℕ) → i < length (cutOf (pieceOf o)) →
+      (1 ≤ pieceAt (cutOf (pieceOf o)) i .size) × (pieceAt (cutOf (pieceOf o)) i .size ≤ 255)
+  within-1-and-255 z i h = (long-cards .cuts o .at-least (λ e. z (sym is ∙ e)) i h, long-cards .cuts o .at-most i)
+
+-- nothing is refused as 9
+pub never-9 : (d : Description) (ops : List ℕ) (n : ℕ) (r : Refusal) → checkOf d ops n ≡ Rejected r → refusalNumber r ≢ 9
+never-9 d ops n r h = long-cards .no-nine r

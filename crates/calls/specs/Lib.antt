@@ -9,5 +9,6 @@ pub mod Run
 pub mod Joined
 pub mod Advances
 pub mod Whole
+pub mod AlreadyCut
 pub mod Bytes
 pub mod Demand

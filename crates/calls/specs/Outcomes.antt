@@ -5,13 +5,12 @@ use Rattle.registers.specs.Map.{offsetOf}
 use Rattle.calls.specs.declared.Outcome.{Outcome}
 use Rattle.calls.specs.declared.Outcome.the-variants.{Done, Bus, Arbitration, Nack, Stopped, ExpectedWrite, ExpectedRead, EventRead, EventWrite, EventStop}
 use Rattle.calls.specs.declared.Refusal.{Refusal}
-use Rattle.calls.specs.declared.Refusal.the-variants.{Address, Long, List, Buffer, NoSuchCall, SavedCall}
+use Rattle.calls.specs.declared.Refusal.the-variants.{Address, List, Buffer, NoSuchCall, SavedCall}
 use Rattle.calls.specs.declared.Report.{Report}
 use Rattle.calls.specs.declared.Report.the-variants.{Over, Full, Waiting, Refused}
 
 abbrev pub refusalNumber : Refusal → ℕ
 refusalNumber Address = 8
-refusalNumber Long = 9
 refusalNumber List = 10
 refusalNumber Buffer = 11
 refusalNumber NoSuchCall = 12

@@ -1,8 +1,8 @@
--- The pieces of a call: the operations of a transaction, the blocks of a target transfer. Each is a run of the buffer's
+-- The pieces of a call: those of a transaction's operations, the blocks of a target transfer. Each is a run of the buffer's
 -- bytes that goes one way. Assumes nothing.
 use Prim.Native.Nat.{ℕ, zero, suc, _+_, _-_, min}
 use mathlib.Core.Bool.{Bool, false, cond, not, _&&_, _||_, Bool·beq}
-use mathlib.Core.List.{List, [], _∷_, map}
+use mathlib.Core.List.{List, [], _∷_, _++_}
 use lib.Dec.{eqb, ltb, leb}
 use lib.ListN.{length, getD}
 use Rattle.fields.specs.Field.{Place, place, bit, getOf, flagOf}
@@ -31,13 +31,23 @@ blocksOf w zero n = []
 blocksOf w (suc fuel) zero = []
 blocksOf w (suc fuel) (suc n) = record { size = min 255 (suc n); reads = w } ∷ blocksOf w fuel (suc n - 255)
 
+-- An operation goes in blocks too, since NBYTES holds no more (document 02, R-1); one of no byte is an empty piece.
+abbrev pub cutOf : Piece → List Piece
+cutOf p = cond (eqb (p .size) 0) (p ∷ []) (blocksOf (p .reads) (p .size) (p .size))
+
+abbrev pub listPieces : List ℕ → List Piece
+listPieces [] = []
+listPieces (o ∷ os) = cutOf (pieceOf o) ++ listPieces os
+
 -- An AutoAck transfer is one piece, a ManualAck transfer goes in blocks; other calls have none.
-unfoldable pub piecesFor : Call → List ℕ → ℕ → List Piece
-piecesFor c ops n =
-    cond (transaction c) (map pieceOf ops)
-    (cond (receives c || transmits c)
+abbrev pub transferPieces : Call → ℕ → List Piece
+transferPieces c n =
+    cond (receives c || transmits c)
     (cond (manual c) (blocksOf (receives c) n n) (record { size = n; reads = receives c } ∷ []))
-    [])
+    []
+
+unfoldable pub piecesFor : Call → List ℕ → ℕ → List Piece
+piecesFor c ops n = cond (transaction c) (listPieces ops) (transferPieces c n)
 
 abbrev pub piecesOf : Request → List Piece
 piecesOf q = piecesFor (q .call) (q .operations) (q .size)

@@ -1,5 +1,6 @@
--- The refusals of a call and of a saved call: document 01's table, rows 12, 8, 10, 9, 11 and 13 in that order. The first row
--- that fits is given. Words that do not belong to the call are not looked at. Assumes nothing.
+-- The refusals of a call and of a saved call: document 01's table, rows 12, 8, 10, 11 and 13 in that order; row 9 went out of
+-- use with document 02, R-1. The first row that fits is given. Words that do not belong to the call are not looked at. Assumes
+-- nothing.
 use Prim.Native.Nat.{ℕ, _+_, max}
 use mathlib.Core.Bool.{Bool, true, false, cond, not, _&&_, _||_}
 use mathlib.Core.List.{List, [], _∷_}
@@ -23,7 +24,7 @@ use Rattle.calls.specs.declared.MaskBits.{MaskBits}
 use Rattle.calls.specs.declared.MaskBits.the-variants.{Unmasked, Masked}
 use Rattle.calls.specs.declared.Modify.{Modify}
 use Rattle.calls.specs.declared.Modify.the-variants.{PeOff, PeOn, Listen, NackSet, ReloadOff, SbcOff, ReloadClear, SbcOn, ReloadOn, NbytesSet}
-use Rattle.calls.specs.declared.Refusal.the-variants.{NoSuchCall, Address, List as BadList, Long, Buffer}
+use Rattle.calls.specs.declared.Refusal.the-variants.{NoSuchCall, Address, List as BadList, Buffer}
 use Rattle.calls.specs.declared.SavedCall.{SavedCall}
 use Rattle.calls.specs.declared.SecondaryAddress.{SecondaryAddress}
 use Rattle.calls.specs.declared.SecondaryAddress.the-variants.{NoSecondary, Secondary}
@@ -102,13 +103,6 @@ strangeBits o = not (eqb (getOf o (place 17 15)) 0)
 abbrev pub listWrong : Call → List ℕ → ℕ → Bool
 listWrong c ops n = transaction c && (ltb 64 (length ops) || (anyOf strangeBits ops || not (eqb (total ops) n)))
 
--- 9, long: an operation that NBYTES cannot hold
-abbrev pub tooLong : ℕ → Bool
-tooLong o = ltb 255 (lengthOf o)
-
-abbrev pub operationLong : Call → List ℕ → Bool
-operationLong c ops = transaction c && anyOf tooLong ops
-
 -- 11, buffer: an AutoAck transfer without a byte to move, or more bytes than sixteen bits count
 abbrev pub bufferWrong : Call → ℕ → Bool
 bufferWrong c n = (((receives c || transmits c) && not (manual c)) && eqb n 0) || ltb 65535 n
@@ -118,9 +112,8 @@ verdictOf q =
     cond (noSuchCall (q .call) (q .words)) (Refused NoSuchCall)
     (cond (addressWide (q .call) (q .words)) (Refused Address)
     (cond (listWrong (q .call) (q .operations) (q .size)) (Refused BadList)
-    (cond (operationLong (q .call) (q .operations)) (Refused Long)
     (cond (bufferWrong (q .call) (q .size)) (Refused Buffer)
-    (Accepted (q .call))))))
+    (Accepted (q .call)))))
 
 abbrev pub requestOf : Call → Description → List ℕ → ℕ → Request
 requestOf c d ops n = record { call = c; words = d; operations = ops; size = n }

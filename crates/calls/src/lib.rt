@@ -123,7 +123,6 @@ pub struct Description {
 // Why a call is refused.
 pub enum Refusal {
     Address,
-    Long,
     List,
     Buffer,
     NoSuchCall,

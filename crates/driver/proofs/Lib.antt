@@ -1,3 +1,5 @@
+pub mod Positions
+pub mod Transfers
 pub mod Pieces
 pub mod Accepts
 pub mod Loop

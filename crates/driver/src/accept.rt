@@ -1,22 +1,22 @@
 // Row 13 of the refusals: which saved calls are taken.
 ghost use mathlib.Core.Path.{_≡_};
 ghost use mathlib.Core.Bool.{not, _&&_, _||_};
-ghost use Prim.Native.Nat.{_≤_, max};
-ghost use lib.Dec.{eqb, ltb};
-ghost use lib.ListN.{length};
+ghost use Prim.Native.Nat.{_≤_};
+ghost use lib.Dec.{eqb};
 ghost use Rattle.calls.specs.Calls.{callNumber, isCall, transaction, manual, receives, transmits, eventful, isConfigured, hasSecondary};
-ghost use Rattle.calls.specs.Pieces.{piecesFor, pieceAt};
-ghost use Rattle.calls.specs.Refusals.{requestOf, modifyGroup, groupOf, groupTaken, accepts};
+ghost use Rattle.calls.specs.Refusals.{requestOf, modifyGroup, groupOf, groupTaken};
 ghost use Rattle.calls.specs.declared.Call.the-variants.{New, TargetNew, ConfigureTargetAddresses, NackTransfer};
 ghost use Rattle.calls.proofs.Fit.{Fit};
-ghost use Rattle.driver.specs.Views.{atByte};
-use crate::view::count;
-use crate::view::size_at;
+ghost use Rattle.driver.specs.Views.{cursorAt, belongs, atByte, standsIn};
+use crate::view::Cursor;
+use crate::view::has_pieces;
+use crate::view::is_there;
 use calls::Call;
 use calls::Description;
 use calls::Modify;
 use calls::SavedCall;
 use calls::Step;
+use calls::View;
 use kinds::call::has_configuration;
 use kinds::call::has_secondary;
 use kinds::call::is_auto_receiver;
@@ -165,44 +165,16 @@ fn takes(c: Call, d: Description, nonempty: bool, t: Step) -> bool
     }
 }
 
-fn at_least_one(k: u32) -> u32
-    ensures { λ r. ⌜ r ≡ max 1 k ⌝ }
-{
-    if k == 0 { 1 } else { k }
-}
-
 fn is_of(s: SavedCall, c: Call) -> bool
     ensures { λ r. ⌜ r ≡ eqb (s .call) (callNumber c) ⌝ }
 {
     s.call == number(c)
 }
 
-// The byte number is one that a run reaches, and BYTE has a byte to move. The running piece, of k, has `size` bytes.
-fn at_byte(c: Call, s: SavedCall, k: u32, size: u32) -> bool
-    requires { ⌜ (s .piece ≤ 65535) × (size ≤ 65535) ⌝ }
-    ensures { λ r. ⌜ r ≡ atByte c s k size ⌝ }
-{
-    let t = s.step;
-    let last = k <= s.piece + 1;
-    (s.byte <= size + 1) & (!is_byte(t) | byte_there(c, s.byte, size, last))
-}
-
-// The piece is one of the k, or the first of none, and the byte number is right in it. The size of no other is asked for.
-fn within(c: Call, ops: &[u32], n: u32, s: SavedCall, k: u32) -> bool
+// The saved call is of this call and has ended, or stands at a step of it; no call has more pieces than sixteen bits count.
+pub fn belongs(c: Call, d: Description, ops: &[u32], n: u32, s: SavedCall) -> bool
     requires { ⌜ Fit c (now ops) n ⌝ }
-    requires { ⌜ k ≡ length (piecesFor c (now ops) n) ⌝ }
-    ensures { λ r. ⌜ r ≡ (ltb (s .piece) (max 1 k) && atByte c s k (pieceAt (piecesFor c (now (ops .entry)) n) (s .piece) .size)) ⌝ }
-{
-    let i = s.piece;
-    if at_least_one(k) <= i {
-        return false;
-    }
-    at_byte(c, s, k, size_at(c, ops, n, i))
-}
-
-pub fn accepts(c: Call, d: Description, ops: &[u32], n: u32, s: SavedCall) -> bool
-    requires { ⌜ Fit c (now ops) n ⌝ }
-    ensures { λ r. ⌜ r ≡ accepts (requestOf c d (now (ops .entry)) n) s ⌝ }
+    ensures { λ r. ⌜ r ≡ belongs (requestOf c d (now (ops .entry)) n) s ⌝ }
 {
     if !is_of(s, c) {
         return false;
@@ -211,9 +183,23 @@ pub fn accepts(c: Call, d: Description, ops: &[u32], n: u32, s: SavedCall) -> bo
     if is_ended(t) {
         return true;
     }
-    let k = count(c, ops, n);
-    if !takes(c, d, 0 < k, t) {
-        return false;
-    }
-    within(c, ops, n, s, k)
+    takes(c, d, has_pieces(c, ops, n), t) & (s.piece <= 65535)
+}
+
+// The byte number is one that a run reaches, and BYTE has a byte to move, in the piece that v is of.
+fn at_byte(c: Call, v: View, s: SavedCall) -> bool
+    requires { ⌜ v .size ≤ 65535 ⌝ }
+    ensures { λ r. ⌜ r ≡ atByte c v s ⌝ }
+{
+    let t = s.step;
+    (s.byte <= v.size + 1) & (!is_byte(t) | byte_there(c, s.byte, v.size, v.last))
+}
+
+// The piece is there, and the byte is right in it; p is the cursor at that piece.
+pub fn stands(c: Call, ops: &[u32], n: u32, p: Cursor, s: SavedCall) -> bool
+    requires { ⌜ Fit c (now ops) n × (p ≡ cursorAt c (now ops) n (s .piece)) ⌝ }
+    ensures { λ r. ⌜ r ≡ standsIn c (now (ops .entry)) n s ⌝ }
+{
+    let v = p.view;
+    is_there(c, ops, n, p.operation, s.piece) & at_byte(c, v, s)
 }

@@ -6,6 +6,9 @@ ghost use lib.ListN.{length};
 ghost use Rattle.calls.specs.Refusals.{requestOf, checkOf};
 ghost use Rattle.calls.specs.Run.{begunOf, runBy, asFinal, finalBy, finalOf};
 ghost use Rattle.calls.specs.Steps.{beginOf};
+ghost use Rattle.calls.specs.declared.Next.the-variants as next;
+ghost use Rattle.calls.specs.declared.Refusal.the-variants.{SavedCall as BadSavedCall};
+ghost use Rattle.calls.specs.declared.Report.the-variants.{Refused};
 ghost use Rattle.calls.specs.declared.Verdict.the-variants.{Accepted};
 ghost use Rattle.driver.specs.Next.{nextBy, nextFor};
 ghost use Rattle.driver.specs.Turn.{untouched};
@@ -62,6 +65,13 @@ fn stopped(report: Report, saved: SavedCall) -> Advanced
     }
 }
 
+// A saved call that row 13 refuses is handed back as it is.
+fn refused(saved: SavedCall) -> Advanced
+    ensures { λ r. ⌜ r ≡ untouched (Refused BadSavedCall) saved ⌝ }
+{
+    stopped(Report::Refused(Refusal::SavedCall), saved)
+}
+
 fn advance_call(
     c: Call,
     d: Description,
@@ -75,16 +85,19 @@ fn advance_call(
     ensures { λ r. ⌜ asFinal r (now (buffer .exit)) (now (log .exit)) ≡ finalBy (now (log .entry)) (runBy (Accepted c) d (now (ops .entry)) (length (now (log .entry)) / 2) saved (now (buffer .entry)) (now (answers .entry))) ⌝ }
 {
     let n = buffer.len() as u32;
-    if !accept::accepts(c, d, ops, n, saved) {
-        return stopped(Report::Refused(Refusal::SavedCall), saved);
+    if !accept::belongs(c, d, ops, n, saved) {
+        return refused(saved);
     }
     let step = saved.step;
     if steps::is_ended(step) {
         let outcome = saved.outcome;
         return stopped(Report::Over(outcome), saved);
     }
-    let v = view::view_at(c, ops, n, saved.piece);
-    run::run(c, d, ops, n, v, saved, buffer, answers, log)
+    let p = view::cursor_at(c, ops, n, saved.piece);
+    if !accept::stands(c, ops, n, p, saved) {
+        return refused(saved);
+    }
+    run::run(c, d, ops, n, p, saved, buffer, answers, log)
 }
 
 // Makes accesses until the call has ended, the log has no place left, or a read finds no answer. Each entry of the log is two
@@ -106,19 +119,29 @@ pub fn advance(
     }
 }
 
+fn no_next() -> Next
+    ensures { λ r. ⌜ r ≡ next.Refused BadSavedCall ⌝ }
+{
+    Next::Refused(Refusal::SavedCall)
+}
+
 fn next_call(c: Call, d: Description, ops: &[u32], saved: SavedCall, buffer: &[u8]) -> Next
     requires { ⌜ checkOf d (now ops) (length (now buffer)) ≡ Accepted c ⌝ }
     ensures { λ r. ⌜ r ≡ nextBy (Accepted c) d (now (ops .entry)) saved (now (buffer .entry)) ⌝ }
 {
     let n = buffer.len() as u32;
-    if !accept::accepts(c, d, ops, n, saved) {
-        return Next::Refused(Refusal::SavedCall);
+    if !accept::belongs(c, d, ops, n, saved) {
+        return no_next();
     }
     let step = saved.step;
     if steps::is_ended(step) {
         return Next::Over;
     }
-    let v = view::view_at(c, ops, n, saved.piece);
+    let p = view::cursor_at(c, ops, n, saved.piece);
+    if !accept::stands(c, ops, n, p, saved) {
+        return no_next();
+    }
+    let v = p.view;
     access::register_at(d, v, saved)
 }
 

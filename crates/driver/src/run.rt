@@ -4,15 +4,16 @@ ghost use Prim.Native.Nat.{_+_, _*_, _/_, _≤_};
 ghost use lib.Dec.{ltb};
 ghost use lib.ListN.{length, set};
 ghost use Rattle.calls.proofs.Accepted.{Known};
-ghost use Rattle.calls.specs.Pieces.{viewOf};
 ghost use Rattle.calls.specs.Refusals.{requestOf};
 ghost use Rattle.calls.specs.Run.{byteOf, advanceFrom, asFinal, finalBy};
 ghost use Rattle.registers.specs.Map.{offsetOf};
 ghost use Rattle.calls.proofs.Fit.{Fit};
 ghost use Rattle.steps.specs.Bounds.{Small};
+ghost use Rattle.driver.specs.Views.{cursorAt};
 ghost use Rattle.driver.specs.Turn.{stayed, went, asMade, madeOf, asTurn, turnLeft};
 use crate::quick;
 use crate::view;
+use crate::view::Cursor;
 use calls::Access;
 use calls::Advanced;
 use calls::Call;
@@ -173,21 +174,22 @@ pub fn run(
     d: Description,
     ops: &[u32],
     n: u32,
-    first: View,
+    first: Cursor,
     saved: SavedCall,
     buffer: &mut [u8],
     answers: &[u32],
     log: &mut [u32],
 ) -> Advanced
-    requires { ⌜ Fit c (now ops) n × (first ≡ viewOf (requestOf c d (now ops) n) saved) × Known (requestOf c d (now ops) n) saved ⌝ }
+    requires { ⌜ Fit c (now ops) n × (first ≡ cursorAt c (now ops) n (saved .piece)) × Known (requestOf c d (now ops) n) saved ⌝ }
     ensures { λ r. ⌜ asFinal r (now (buffer .exit)) (now (log .exit)) ≡ finalBy (now (log .entry)) (advanceFrom (requestOf c d (now (ops .entry)) n) (length (now (log .entry)) / 2) saved (now (buffer .entry)) (now (answers .entry))) ⌝ }
 {
     let mut s = saved;
-    let mut v = first;
+    let mut p = first;
     let mut used: usize = 0;
     let mut written: usize = 0;
     let places = log.len() / 2;
     while written < places {
+        let v = p.view;
         // Quick turns have a loop of their own, which keeps little at hand. The last place is left to the general turn.
         let mut quick = true;
         while quick & (written + 1 < places) {
@@ -202,7 +204,7 @@ pub fn run(
         let t = turn(c, d, v, s, buffer, answers, used, log, 2 * written);
         if t.going {
             let next = t.saved;
-            v = view::view_after(c, ops, n, v, s.piece, next.piece);
+            p = view::cursor_after(c, ops, n, p, s.piece, next.piece);
             s = next;
             used = t.used;
             written += 1;

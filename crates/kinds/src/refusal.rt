@@ -8,7 +8,6 @@ pub fn number(why: Refusal) -> u32
 {
     match why {
         Refusal::Address => 8,
-        Refusal::Long => 9,
         Refusal::List => 10,
         Refusal::Buffer => 11,
         Refusal::NoSuchCall => 12,

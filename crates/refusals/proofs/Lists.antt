@@ -15,9 +15,9 @@ use mir.Syntax.{w32}
 use mir.Val.{Fits}
 use Rattle.calls.specs.Calls.{transaction}
 use Rattle.calls.specs.Pieces.{operation-length}
-use Rattle.calls.specs.Refusals.{lengthOf, strangeBits, tooLong, total, anyOf}
+use Rattle.calls.specs.Refusals.{lengthOf, strangeBits, total, anyOf}
 use Rattle.calls.specs.declared.Call.{Call}
-use Rattle.calls.specs.declared.Refusal.the-variants.{List as BadList, Long}
+use Rattle.calls.specs.declared.Refusal.the-variants.{List as BadList}
 use Rattle.calls.specs.declared.Verdict.{Verdict}
 use Rattle.calls.specs.declared.Verdict.the-variants.{Refused}
 use Rattle.kinds.proofs.Branch.{told, un-not}
@@ -25,24 +25,22 @@ use Rattle.fields.proofs.Laws.{get-lt}
 use Rattle.refusals.specs.Rows.{surveyOf, bufferVerdict, listVerdict}
 use Rattle.refusals.specs.declared.Survey.{Survey}
 
-abbrev pub onward : Bool → Bool → ℕ → List ℕ → Survey
-onward strange long sum ops = record {
+abbrev pub onward : Bool → ℕ → List ℕ → Survey
+onward strange sum ops = record {
   strange = strange || anyOf strangeBits ops;
-  long = long || anyOf tooLong ops;
   total = sum + total ops;
 }
 
-pub survey-starts : (ops : List ℕ) → onward false false 0 ops ≡ surveyOf ops
+pub survey-starts : (ops : List ℕ) → onward false 0 ops ≡ surveyOf ops
 survey-starts ops = rw zero-add
 
-module _ (ops : List ℕ) (i : ℕ) (strange long : Bool) (sum : ℕ) (all : onward strange long sum (drop i ops) ≡ surveyOf ops) where
-  pub survey-ends : length ops ≤ i → record { strange = strange; long = long; total = sum } ≡ surveyOf ops
+module _ (ops : List ℕ) (i : ℕ) (strange : Bool) (sum : ℕ) (all : onward strange sum (drop i ops) ≡ surveyOf ops) where
+  pub survey-ends : length ops ≤ i → record { strange = strange; total = sum } ≡ surveyOf ops
   survey-ends h = simp (drop-of-length-le ops h, or-false, add-zero) at all
 
   module _ (some : i < length ops) (n : ℕ) (is : n ≡ lengthOf (getD ops i 0)) where
-    pub survey-next : (x y : Bool) → x ≡ strangeBits (getD ops i 0) → y ≡ tooLong (getD ops i 0) →
-        onward (strange || x) (long || y) (sum + n) (drop (i + 1) ops) ≡ surveyOf ops
-    survey-next x y p q = rw (p, q, is) (simp (add-one, or-assoc, add-assoc) (rw (drop-cons ops i 0 some) at all))
+    pub survey-next : (x : Bool) → x ≡ strangeBits (getD ops i 0) → onward (strange || x) (sum + n) (drop (i + 1) ops) ≡ surveyOf ops
+    survey-next x p = rw (p, is) (simp (add-one, or-assoc, add-assoc) (rw (drop-cons ops i 0 some) at all))
 
     pub sum-low : sum ≤ 65535 * i → sum + n ≤ 65535 * (i + 1)
     sum-low h = omega (arith, get-lt (getD ops i 0) operation-length)
@@ -65,11 +63,7 @@ module _ (c : Call) (ops : List ℕ) (n : ℕ) (t : Bool) (is : t ≡ transactio
       pub list-wrong : (s .strange || not (eqb (s .total) n)) ≡ true → Refused BadList ≡ listVerdict c ops n
       list-wrong h = rw (told is (un-not list), le-ltb 64 (length ops) few, rw found at h)
 
-      module _ (right : (s .strange || not (eqb (s .total) n)) ≡ false) where
-        pub long-one : s .long ≡ true → Refused Long ≡ listVerdict c ops n
-        long-one h = rw (told is (un-not list), le-ltb 64 (length ops) few, rw found at right, rw found at h)
+      pub list-right : {r : Verdict} → (s .strange || not (eqb (s .total) n)) ≡ false → r ≡ bufferVerdict c n → r ≡ listVerdict c ops n
+      list-right h e = rw (told is (un-not list), le-ltb 64 (length ops) few, rw found at h) e
 
-        pub list-right : {r : Verdict} → s .long ≡ false → r ≡ bufferVerdict c n → r ≡ listVerdict c ops n
-        list-right h e = rw (told is (un-not list), le-ltb 64 (length ops) few, rw found at right, rw found at h) e
-
-pub ruleset list-rows = (no-list, too-many, list-wrong, long-one, list-right)
+pub ruleset list-rows = (no-list, too-many, list-wrong, list-right)

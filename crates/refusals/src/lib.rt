@@ -1,9 +1,9 @@
-// Document 01's table of refusals, rows 12, 8, 10, 9 and 11: the first that fits is given. A row's tests are cheap, and
+// Document 01's table of refusals, rows 12, 8, 10 and 11: the first that fits is given. A row's tests are cheap, and
 // `&` and `|` take them all; only the operation list is left alone where the call is no transaction.
 ghost use mathlib.Core.Path.{_≡_};
 ghost use Prim.Native.Nat.{_≤_};
 ghost use lib.ListN.{length};
-ghost use Rattle.calls.specs.Refusals.{noSuchListenKind, noConfiguration, noSuchCall, tooWide, secondaryWide, maskWide, configWide, addressWide, strangeBits, tooLong, bufferWrong, requestOf, verdictOf, checkOf};
+ghost use Rattle.calls.specs.Refusals.{noSuchListenKind, noConfiguration, noSuchCall, tooWide, secondaryWide, maskWide, configWide, addressWide, strangeBits, bufferWrong, requestOf, verdictOf, checkOf};
 ghost use Rattle.refusals.specs.Rows.{surveyOf, bufferVerdict, listVerdict};
 use calls::AddressMode;
 use calls::Call;
@@ -100,17 +100,9 @@ fn is_strange(o: u32) -> bool
     fields::get(o, 17, 15) != 0
 }
 
-// 9, long: an operation that NBYTES cannot count.
-fn is_long(o: u32) -> bool
-    ensures { λ r. ⌜ r ≡ tooLong o ⌝ }
-{
-    operation::length(o) > 255
-}
-
-// What rows 10 and 9 ask of a list.
+// What row 10 asks of a list.
 struct Survey {
     strange: bool,
-    long: bool,
     total: u32,
 }
 
@@ -121,19 +113,13 @@ fn survey_of(ops: &[u32]) -> Survey
     ensures { λ r. ⌜ r ≡ surveyOf (now (ops .entry)) ⌝ }
 {
     let mut strange = false;
-    let mut long = false;
     let mut total: u32 = 0;
     for i in 0..ops.len() {
         let o = ops[i];
         strange |= is_strange(o);
-        long |= is_long(o);
         total += operation::length(o);
     }
-    Survey {
-        strange,
-        long,
-        total,
-    }
+    Survey { strange, total }
 }
 
 // 11, buffer: an AutoAck transfer moves a byte, and sixteen bits count the bytes.
@@ -166,9 +152,6 @@ fn list_verdict(c: Call, ops: &[u32], n: usize) -> Verdict
     let s = survey_of(ops);
     if s.strange | (s.total as usize != n) {
         return Verdict::Refused(Refusal::List);
-    }
-    if s.long {
-        return Verdict::Refused(Refusal::Long);
     }
     buffer_verdict(c, n)
 }

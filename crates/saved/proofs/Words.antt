@@ -5,7 +5,7 @@ use Prim.Native.Nat.{ℕ, zero, suc, _-_, _≤_, _<_}
 use native.Mathlib.Omega.{arith}
 use mathlib.Core.Path.{_≡_, refl}
 use mathlib.Core.Bool.{Bool, true, false, cond, not, _||_}
-use mathlib.Core.List.{List, [], _∷_, map}
+use mathlib.Core.List.{List, [], _∷_}
 use lib.Dec.{T, eqb, eqb→eq, ltb, ltb→lt, lit<}
 use lib.ListN.{length, getD, set}
 use Rattle.fields.proofs.Laws.{and-l, get-lt, put-lt}
@@ -14,6 +14,7 @@ use Rattle.registers.specs.Map.{offsetOf}
 use Rattle.registers.specs.Places.{ISR-ADDCODE, OAR1-OA1}
 use Rattle.registers.specs.declared.Register.{Register}
 use Rattle.registers.specs.declared.Register.the-variants.{Cr1, Cr2, Oar1, Oar2, Timingr, Isr, Icr, Rxdr, Txdr}
+use Rattle.calls.proofs.AlreadyCut.{list-few, list-short}
 use Rattle.calls.proofs.Accepted.{known, notes-well, known-after, accepted-after}
 use Rattle.calls.proofs.Along.{made, no-access}
 use Rattle.calls.proofs.Every.{every}
@@ -22,7 +23,7 @@ use Rattle.calls.proofs.Logic.{by-test, both}
 use Rattle.calls.proofs.Views.{notedIn, thenIn, after-noted}
 use Rattle.calls.specs.Calls.{Request, callNumber, transaction, manual, receives, transmits}
 use Rattle.calls.specs.Outcomes.{outcomeValue, readdressed, isEventRead}
-use Rattle.calls.specs.Pieces.{Piece, pieceOf, pieceAt, blocksOf, piecesFor, piecesOf, viewOf}
+use Rattle.calls.specs.Pieces.{Piece, pieceAt, blocksOf, piecesFor, piecesOf, viewOf}
 use Rattle.calls.specs.Refusals.{requestOf, checkOf, accepts}
 use Rattle.calls.specs.Run.{byteOf, turnOf, advanceFrom}
 use Rattle.calls.specs.Steps.{accessAt, accessOf, afterOf, applyOf, awaited, beginOf, countOf, sameStep, noted, effectAt, waitAt}
@@ -69,15 +70,6 @@ pub record Small (ps : List Piece) : Type 0 where
   pub few : length ps ≤ 65535
   pub size : (i : ℕ) → pieceAt ps i .size ≤ 65535
 
-as-many : (ops : List ℕ) → length (map pieceOf ops) ≡ length ops
-as-many [] = refl
-as-many (o ∷ ops) = omega (arith, as-many ops)
-
-small-operation : (ops : List ℕ) (i : ℕ) → pieceAt (map pieceOf ops) i .size ≤ 65535
-small-operation [] i = omega arith
-small-operation (o ∷ ops) zero = omega (arith, get-lt o (record { at = 0; width = 16 }))
-small-operation (o ∷ ops) (suc i) = small-operation ops i
-
 few-blocks : (w : Bool) (f n : ℕ) → length (blocksOf w f n) ≤ f
 few-blocks w zero n = omega arith
 few-blocks w (suc f) zero = omega arith
@@ -97,7 +89,7 @@ small-pieces : (c : Call) (ops : List ℕ) (n : ℕ) → Fit c ops n → Small (
 unfolding piecesFor
 small-pieces c ops n f =
     by-test Small (transaction c)
-    (λ t. record { few = omega (arith, f .few t, as-many ops); size = small-operation ops })
+    (λ t. record { few = omega (arith, f .few t, f .sum t, f .size, list-few ops); size = λ i. omega (arith, list-short ops i) })
     (λ _.
     by-test Small (receives c || transmits c)
     (λ _.

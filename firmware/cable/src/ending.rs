@@ -31,7 +31,7 @@ impl Ending {
                 Direction::Send => scoreboard.buffer.clone(),
                 Direction::ReadBack => terminal.buffer.clone(),
             },
-            bytes_out: u32::from(scoreboard.i2c.bytes_out()),
+            bytes_out: scoreboard.i2c.bytes_out(),
         }
     }
 

@@ -60,7 +60,7 @@ impl fmt::Display for Exchange {
 }
 
 impl Exchange {
-    /// An exchange of a card with up to 255 holes.
+    /// An exchange of a card with up to 65,535 bytes, of which the strokes on a hole are one.
     pub fn new(direction: Direction, ack: Ack, card: &[u8]) -> Self {
         let first = card.len() as u16 / 2;
         let second = card.len() as u16 - first;

@@ -62,7 +62,7 @@ pub struct SimulatedI2c {
     /// What is left of the NBYTES of the running block.
     remaining: u8,
     /// Bytes that went out whole, acknowledged or not. No register shows it; the page's claims do.
-    bytes_out: u8,
+    bytes_out: u32,
 }
 
 impl Default for SimulatedI2c {
@@ -130,7 +130,7 @@ impl SimulatedI2c {
     }
 
     /// Bytes that it put on SDA whole.
-    pub fn bytes_out(&self) -> u8 {
+    pub fn bytes_out(&self) -> u32 {
         self.bytes_out
     }
 

@@ -4,7 +4,7 @@ use core::ops::{Deref, DerefMut};
 
 use crate::running::run;
 use crate::{
-    Address, Description, Error, I2cTarget, Operation, Peripheral, RawTimingr, Registers,
+    Address, Description, Error, I2cTarget, Operation, Peripheral, RawTimingr, Refusal, Registers,
     TargetConfig,
 };
 
@@ -29,7 +29,8 @@ impl<R: Registers> I2c<R> {
     }
 
     /// Makes the operations in turn, without a stop between them. Their lengths make up the buffer,
-    /// which has the bytes to put out and the places of those that come in; no others are changed.
+    /// of up to 65,535 bytes, which has the bytes to put out and the places of those that come in; no
+    /// others are changed.
     pub fn transaction(
         &mut self,
         address: Address,
@@ -46,14 +47,16 @@ impl<R: Registers> I2c<R> {
         Ok(())
     }
 
-    /// Fills the buffer, of up to 255 bytes.
+    /// Fills the buffer, of up to 65,535 bytes.
     pub fn read(&mut self, address: Address, buffer: &mut [u8]) -> Result<(), Error> {
-        self.transaction(address, &[Operation::read(length(buffer.len()))], buffer)
+        let length = self.length(address, buffer.len())?;
+        self.transaction(address, &[Operation::read(length)], buffer)
     }
 
-    /// Puts up to 255 bytes out. They are not changed.
+    /// Puts up to 65,535 bytes out. They are not changed.
     pub fn write(&mut self, address: Address, bytes: &mut [u8]) -> Result<(), Error> {
-        self.transaction(address, &[Operation::write(length(bytes.len()))], bytes)
+        let length = self.length(address, bytes.len())?;
+        self.transaction(address, &[Operation::write(length)], bytes)
     }
 
     /// Puts the first `written` bytes out and, after a repeated start, fills the rest.
@@ -63,12 +66,28 @@ impl<R: Registers> I2c<R> {
         buffer: &mut [u8],
         written: usize,
     ) -> Result<(), Error> {
-        let rest = buffer.len().saturating_sub(written);
+        let Some(rest) = buffer.len().checked_sub(written) else {
+            // A list that asks for more than there is.
+            return self.transaction(address, &[Operation::write(1)], &mut []);
+        };
         let operations = [
-            Operation::write(length(written)),
-            Operation::read(length(rest)),
+            Operation::write(self.length(address, written)?),
+            Operation::read(self.length(address, rest)?),
         ];
         self.transaction(address, &operations, buffer)
+    }
+
+    /// The length of a part of the buffer, as an operation holds it. Where it holds no more, the
+    /// buffer is too long; an empty transaction makes no access, and is refused for an address that
+    /// is wrong, which comes first.
+    fn length(&mut self, address: Address, bytes: usize) -> Result<u16, Error> {
+        match u16::try_from(bytes) {
+            Ok(length) => Ok(length),
+            Err(_) => {
+                self.transaction(address, &[], &mut [])?;
+                Err(Refusal::BUFFER.into())
+            }
+        }
     }
 
     /// The same peripheral as a target. It is called only if it was set up with a configuration and
@@ -85,12 +104,6 @@ impl<R: Registers> I2c<R> {
     pub(crate) fn of(peripheral: Peripheral<R>) -> Self {
         I2c { peripheral }
     }
-}
-
-/// A length as an operation holds it. What is longer is held at 65,535, which is refused like the
-/// length itself.
-fn length(bytes: usize) -> u16 {
-    u16::try_from(bytes).unwrap_or(u16::MAX)
 }
 
 impl<R> Deref for I2c<R> {

@@ -21,7 +21,7 @@ pub enum Error {
     Refused(Refusal),
 }
 
-/// Document 01's number of a refusal, or [`Refusal::LIBRARY`].
+/// Document 01's number of a refusal, or [`Refusal::LIBRARY`]. 9 is out of use.
 #[derive(Clone, Copy, Debug, PartialEq, Eq)]
 pub struct Refusal(pub u32);
 
@@ -29,6 +29,9 @@ impl Refusal {
     /// The library that is linked is not the one that this crate was written for. Nothing was done,
     /// and no other call will do anything.
     pub const LIBRARY: Refusal = Refusal(0);
+
+    /// There is no byte to move where there has to be one, or there are more than 65,535.
+    pub const BUFFER: Refusal = Refusal(11);
 
     /// Its words in document 01.
     pub const fn words(self) -> &'static str {
@@ -42,7 +45,6 @@ impl Refusal {
             6 => "no setup",
             7 => "field wide",
             8 => "address",
-            9 => "long",
             10 => "list",
             11 => "buffer",
             12 => "no such call",

@@ -33,12 +33,12 @@ impl<R, const BYTES: usize> i2c::ErrorType for Bus<R, BYTES> {
 /// What does not fit is refused as `list`, like a list that is too long.
 const TOO_MUCH: BusError = BusError(Error::Refused(Refusal(10)));
 
-fn operation_of(operation: &i2c::Operation<'_>) -> Operation {
-    let length = |bytes: &[u8]| u16::try_from(bytes.len()).unwrap_or(u16::MAX);
-    match operation {
-        i2c::Operation::Read(bytes) => Operation::read(length(bytes)),
-        i2c::Operation::Write(bytes) => Operation::write(length(bytes)),
-    }
+fn operation_of(operation: &i2c::Operation<'_>) -> Result<Operation, BusError> {
+    let length = |bytes: &[u8]| u16::try_from(bytes.len()).map_err(|_| TOO_MUCH);
+    Ok(match operation {
+        i2c::Operation::Read(bytes) => Operation::read(length(bytes)?),
+        i2c::Operation::Write(bytes) => Operation::write(length(bytes)?),
+    })
 }
 
 impl<R: Registers, const BYTES: usize> Bus<R, BYTES> {
@@ -61,7 +61,7 @@ impl<R: Registers, const BYTES: usize> Bus<R, BYTES> {
             if let i2c::Operation::Write(bytes) = operation {
                 part.copy_from_slice(bytes);
             }
-            *place = operation_of(operation);
+            *place = operation_of(operation)?;
             free = rest;
         }
         let left = free.len();
@@ -102,6 +102,19 @@ impl<R: Registers, const BYTES: usize> i2c::I2c<i2c::TenBitAddress> for Bus<R, B
 
 fn bus(answers: &[u32]) -> Bus<Scripted, 8> {
     Bus(controller(answers))
+}
+
+#[test]
+fn a_long_card_is_one_operation() {
+    let (first, rest) = ([&[1, 0], &[2; 255][..], &[0x80]], [&[1, 0], &[2; 45][..]]);
+    let answers = [first.concat(), rest.concat(), vec![0x20]].concat();
+    let mut bus: Bus<Scripted, 300> = Bus(controller(&answers));
+    let mut operations = [i2c::Operation::Write(&[0x12; 300])];
+    assert_eq!(bus.transaction(0x50_u8, &mut operations), Ok(()));
+    let accesses = bus.0.registers().take();
+    assert_eq!(accesses.len(), 4 * 2 + 1 + 2 * 300);
+    assert_eq!(accesses[0], "w 04 01FF20A0");
+    assert_eq!(accesses[514], "w 04 022D0000");
 }
 
 #[test]

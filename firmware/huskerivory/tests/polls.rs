@@ -178,4 +178,6 @@ fn refusals_have_words() {
         Error::Refused(Refusal(12)).to_string(),
         "refused 12 no such call"
     );
+    assert_eq!(Refusal(9).words(), "unknown", "9 is out of use");
+    assert_eq!(Refusal::BUFFER.to_string(), "refused 11 buffer");
 }

@@ -226,7 +226,6 @@ fn stopped_while_reading() {
 #[test]
 fn refused_without_an_access() {
     let mut i2c = controller(&[]);
-    let mut long = [0x5A; 70_000];
     assert_eq!(i2c.write(Address::SevenBit(0x80), &mut [1]), refused(8));
     assert_eq!(i2c.read(Address::TenBit(0x400), &mut [1]), refused(8));
     assert_eq!(
@@ -238,10 +237,33 @@ fn refused_without_an_access() {
         refused(10)
     );
     assert_eq!(i2c.write_read(BOARD, &mut [1, 2], 3), refused(10));
-    assert_eq!(i2c.write(BOARD, &mut long[..256]), refused(9));
-    assert_eq!(i2c.read(BOARD, &mut long[..65_535]), refused(9));
-    assert_eq!(i2c.read(BOARD, &mut long), refused(10));
-    assert_eq!(i2c.write_read(BOARD, &mut long, 70_000), refused(10));
+    assert!(i2c.registers().take().is_empty());
+}
+
+/// A buffer of 65,536 bytes is refused as such, after a wrong address and a list that disagrees.
+#[test]
+fn a_byte_too_many() {
+    let mut i2c = controller(&[]);
+    let mut long = [0x5A; 70_000];
+    let halves = [Operation::write(32_768); 2];
+    assert_eq!(i2c.write(BOARD, &mut long[..65_536]), refused(11));
+    assert_eq!(i2c.read(BOARD, &mut long[..65_536]), refused(11));
+    assert_eq!(i2c.write(Address::SevenBit(0x80), &mut long), refused(8));
+    assert_eq!(
+        i2c.transaction(BOARD, &halves, &mut long[..65_536]),
+        refused(11)
+    );
+    assert_eq!(
+        i2c.transaction(BOARD, &halves, &mut long[..65_535]),
+        refused(10)
+    );
+    assert_eq!(i2c.write_read(BOARD, &mut long[..65_536], 1), refused(11));
+    assert_eq!(i2c.write_read(BOARD, &mut long, 70_000), refused(11));
+    assert_eq!(i2c.write_read(BOARD, &mut long, 0), refused(11));
+    assert_eq!(i2c.write_read(BOARD, &mut long, 70_001), refused(10));
+    // Held at what an operation holds, this would be a write of the whole buffer.
+    let whole = &mut long[..65_535];
+    assert_eq!(i2c.write_read(BOARD, whole, 65_536), refused(10));
     assert!(long.iter().all(|&byte| byte == 0x5A));
     assert!(i2c.registers().take().is_empty());
 }

@@ -1,9 +1,11 @@
-//! A simulated I2C peripheral whose bus has one scoreboard: a memory of 20 bytes. The first byte of
+//! A simulated I2C peripheral whose bus has one scoreboard: a memory of 600 bytes. The first byte of
 //! a write says from which place on it is written or read.
 
 use huskerivory::Registers;
 
 pub const ADDRESS: u8 = 0x50;
+
+const PLACES: usize = 600;
 
 const CR1: u32 = 0x00;
 const CR2: u32 = 0x04;
@@ -26,19 +28,29 @@ const ISR_STOPF: u32 = 1 << 5;
 const ISR_TC: u32 = 1 << 6;
 const ISR_TCR: u32 = 1 << 7;
 
+/// What happened since this was last asked.
+#[derive(Clone, Copy, Default)]
+pub struct News {
+    /// START conditions on the bus.
+    pub starts: u32,
+    /// Bytes that the board took.
+    pub taken: u32,
+    /// Register accesses.
+    pub accesses: u32,
+}
+
 pub struct Board {
     cr1: u32,
     cr2: u32,
     isr: u32,
-    /// The bytes that the running operation still has.
+    /// The bytes that the running piece still has.
     left: u32,
-    card: [u8; 20],
+    card: [u8; PLACES],
     /// The place of the next byte, once a write has said it.
-    place: Option<u8>,
+    place: Option<usize>,
     /// How many bytes the board acknowledges before it gives up.
-    patience: u8,
-    taken: u32,
-    accesses: u32,
+    patience: u32,
+    news: News,
 }
 
 impl Board {
@@ -48,33 +60,30 @@ impl Board {
             cr2: 0,
             isr: ISR_TXE,
             left: 0,
-            card: [0; 20],
+            card: [0; PLACES],
             place: Some(0),
-            patience: u8::MAX,
-            taken: 0,
-            accesses: 0,
+            patience: u32::MAX,
+            news: News::default(),
         }
     }
 
-    pub fn gives_up_after(&mut self, bytes: u8) {
+    pub fn gives_up_after(&mut self, bytes: u32) {
         self.patience = bytes;
     }
 
-    /// The bytes taken and the accesses made since this was last asked.
-    pub fn news(&mut self) -> (u32, u32) {
-        let news = (self.taken, self.accesses);
-        (self.taken, self.accesses) = (0, 0);
-        news
+    pub fn news(&mut self) -> News {
+        core::mem::take(&mut self.news)
     }
 
     fn start(&mut self, cr2: u32) {
         self.cr2 = cr2 & !CR2_START;
         self.left = cr2 >> 16 & 0xFF;
+        self.isr &= !(ISR_TC | ISR_TCR);
         if cr2 & CR2_START != 0 {
+            self.news.starts += 1;
             if cr2 & CR2_SADD != u32::from(ADDRESS) << 1 {
                 return self.not_acknowledged();
             }
-            self.isr &= !(ISR_TC | ISR_TCR);
             if cr2 & CR2_RD_WRN == 0 {
                 self.place = None;
             }
@@ -103,10 +112,10 @@ impl Board {
             return self.not_acknowledged();
         }
         self.patience -= 1;
-        self.taken += 1;
+        self.news.taken += 1;
         match self.next_place() {
             Some(place) => *place = byte,
-            None => self.place = Some(byte),
+            None => self.place = Some(usize::from(byte)),
         }
         self.moved();
     }
@@ -120,9 +129,9 @@ impl Board {
 
     /// The place of the next byte, which goes round.
     fn next_place(&mut self) -> Option<&mut u8> {
-        let place = self.place? % 20;
+        let place = self.place? % PLACES;
         self.place = Some(place + 1);
-        self.card.get_mut(usize::from(place))
+        self.card.get_mut(place)
     }
 
     fn moved(&mut self) {
@@ -133,7 +142,7 @@ impl Board {
 
 impl Registers for Board {
     fn read(&mut self, offset: u32) -> u32 {
-        self.accesses += 1;
+        self.news.accesses += 1;
         match offset {
             CR1 => self.cr1,
             CR2 => self.cr2,
@@ -144,7 +153,7 @@ impl Registers for Board {
     }
 
     fn write(&mut self, offset: u32, value: u32) {
-        self.accesses += 1;
+        self.news.accesses += 1;
         match offset {
             CR1 => self.cr1 = value,
             CR2 => self.start(value),

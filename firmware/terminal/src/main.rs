@@ -51,13 +51,21 @@ const CARDS: [[u8; 21]; 2] = [
     ],
 ];
 
+/// A competition's card with the names of its holes, a row for each. It is longer than the 255 bytes
+/// that NBYTES counts.
+const COMPETITION: &[u8] = include_bytes!("../../../examples/competition.csv");
+
 fn say(what: &str, result: Result<(), Error>, i2c: &mut I2c<Board>) -> fmt::Result {
     match result {
         Ok(()) => write!(Line, "{what}: done")?,
         Err(error) => write!(Line, "{what}: {error}")?,
     }
-    let (bytes, accesses) = i2c.registers().news();
-    writeln!(Line, " (bytes taken {bytes}, accesses {accesses})")
+    let news = i2c.registers().news();
+    writeln!(
+        Line,
+        " (bytes taken {}, accesses {}, starts {})",
+        news.taken, news.accesses, news.starts
+    )
 }
 
 fn send_cards() -> Result<(), Error> {
@@ -76,6 +84,18 @@ fn send_cards() -> Result<(), Error> {
     let asked = i2c.write_read(SCOREBOARD, &mut total, 1);
     let _ = say("its total", asked, &mut i2c);
     let _ = writeln!(Line, "the board says {}", total[1]);
+
+    // A card of any length is one call, and one write on the bus.
+    let mut card = [0; 1 + COMPETITION.len()];
+    card[1..].copy_from_slice(COMPETITION);
+    let sent = i2c.write(SCOREBOARD, &mut card);
+    let _ = say("the competition's card", sent, &mut i2c);
+
+    // The place where it begins, a repeated start, and all its bytes.
+    card[1..].fill(0);
+    let asked = i2c.write_read(SCOREBOARD, &mut card, 1);
+    let _ = say("the same read back", asked, &mut i2c);
+    let _ = write!(Line, "{}", str::from_utf8(&card[1..]).unwrap_or("no text"));
 
     i2c.registers().gives_up_after(7);
     let mut card = CARDS[1];

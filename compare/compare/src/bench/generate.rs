@@ -88,8 +88,17 @@ fn entries(random: &mut Random) -> Vec<Entry> {
     entries
 }
 
-/// A call with the answers that it asks for where it is described by a file.
+/// A call with the answers that it asks for where it is described by a file; one in sixteen has its
+/// lengths at their edges, as far as a file has room, and mostly goes to its end.
 fn case(random: &mut Random) -> Case {
+    if random.up_to(15) == 0 {
+        let mut case = meaning::as_read(&generate::edge(random));
+        if random.up_to(3) == 0 {
+            let kept = random.up_to(case.answers.len() as u32);
+            case.answers.truncate(kept as usize);
+        }
+        return case;
+    }
     let mut described = generate::described(random);
     if described.asked.call == 7 && random.up_to(15) == 0 {
         read_much(&mut described, random);
@@ -101,12 +110,14 @@ fn case(random: &mut Random) -> Case {
 
 /// Operations that take no words of the head, and a sum around what is lent at most.
 fn read_much(case: &mut Case, random: &mut Random) {
-    let lengths: &[u32] = match random.up_to(5) {
+    let lengths: &[u32] = match random.up_to(7) {
         0 => &[65_535],
         1 => &[65_535, 1],
         2 => &[65_535, 2],
         3 => &[65_535; 20],
         4 => &[256; 256],
+        5 => &[32_768; 2],
+        6 => &[1_021; 64],
         _ => &[255; 64],
     };
     let operations = lengths.iter().map(|length| READ | length);

@@ -1,6 +1,7 @@
 //! What the bench program has to print of a file.
 
 use super::meaning;
+use crate::calls::pieces::later_controls;
 use crate::calls::run::Run;
 
 /// The text of a file that is refused.
@@ -10,6 +11,8 @@ pub struct Printed {
     pub text: String,
     /// The calls, unless the file is refused.
     pub calls: Option<Vec<Run>>,
+    /// The outcomes of those that came to a later piece of an operation.
+    pub later: Vec<&'static str>,
 }
 
 pub fn of(file: &[u8]) -> Printed {
@@ -17,6 +20,7 @@ pub fn of(file: &[u8]) -> Printed {
         return Printed {
             text: REFUSED.to_string(),
             calls: None,
+            later: Vec::new(),
         };
     };
     let calls: Vec<Run> = cases.iter().map(Run::of).collect();
@@ -27,9 +31,13 @@ pub fn of(file: &[u8]) -> Printed {
             run.write_buffer(&mut text);
         }
     }
+    let both = cases.iter().zip(&calls);
+    let later = both.filter(|(case, run)| !later_controls(&case.asked, &run.log).is_empty());
+    let later = later.map(|(_, run)| run.word).collect();
     Printed {
         text,
         calls: Some(calls),
+        later,
     }
 }
 

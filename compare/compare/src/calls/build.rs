@@ -4,6 +4,7 @@ use oracle::Asked;
 
 use super::case::Case;
 use super::chip::*;
+use super::pieces;
 
 /// An operation that reads.
 pub const READ: u32 = 0x1_0000;
@@ -94,6 +95,25 @@ impl Case {
     pub fn asks_for(mut self, count: usize) -> Self {
         self.answers.extend(vec![TXIS | TXE; count]);
         self
+    }
+
+    /// Answers by which a transaction goes to its end without a poll.
+    pub fn goes_through(self) -> Self {
+        let pieces = pieces::of(&self.asked.operations);
+        let mut case = self;
+        for (place, piece) in pieces.iter().enumerate() {
+            case = case.answers(&[TXE, 0]);
+            case = match piece.reads {
+                true => case.receives(piece.size as u32),
+                false => case.asks_for(piece.size),
+            };
+            case = case.answers(&[match pieces.get(place + 1) {
+                Some(next) if next.reads == piece.reads => TCR,
+                Some(_) => TC,
+                None => STOPF,
+            }]);
+        }
+        case
     }
 
     /// A NACK that finds nothing to flush.

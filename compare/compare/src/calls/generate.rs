@@ -6,6 +6,7 @@ use super::answers::{Answers, Stretch};
 use super::build::READ;
 use super::case::Case;
 use super::chip::{ARLO, BERR, NACKF, STOPF};
+use super::pieces::sum;
 use crate::random::Random;
 
 /// The listed calls.
@@ -34,7 +35,8 @@ pub fn case_or_edge(random: &mut Random) -> Case {
     }
 }
 
-fn edge(random: &mut Random) -> Case {
+/// A call with its lengths at their limits, and the answers by which it comes to its end.
+pub fn edge(random: &mut Random) -> Case {
     let mut case = Case::default();
     let asked = &mut case.asked;
     asked.call = random.pick(&TRANSFERS);
@@ -50,19 +52,51 @@ fn edge(random: &mut Random) -> Case {
     case
 }
 
-/// Lengths at their limits, and counts at theirs; now and then one too much of either.
+/// Lengths at the edges of pieces, and counts at theirs; now and then as many bytes as there may
+/// be, or one too much of either.
 fn edge_operations(random: &mut Random) -> Vec<u32> {
     let count = match random.up_to(15) {
         0 => 63 + random.up_to(1),
         1 if random.up_to(3) == 0 => 65,
         _ => 1 + random.up_to(2),
     };
-    let most = if random.up_to(15) == 0 { 4 } else { 3 };
-    let mut operation = || {
-        let length = [0, 1, 254, 255, 256][random.up_to(most) as usize];
-        length | random.pick(&[0, READ])
-    };
-    (0..count).map(|_| operation()).collect()
+    let mut operations = Vec::new();
+    for _ in 0..count {
+        let length = match random.up_to(15) {
+            0 => edge_of_piece(random.up_to(8), random),
+            _ => random.pick(&[0, 1, 254, 255, 256, 510, 511]),
+        };
+        operations.push(length | random.pick(&[0, READ]));
+    }
+    if random.up_to(31) == 0 {
+        let bytes = 65_535 + u32::from(random.up_to(3) == 0);
+        fill_up(&mut operations, bytes, random);
+    }
+    operations
+}
+
+/// A length around so many whole pieces.
+fn edge_of_piece(pieces: u32, random: &mut Random) -> u32 {
+    (255 * pieces + random.up_to(2)).saturating_sub(1)
+}
+
+/// Has an operation, and if one is not enough another, take what is left of so many bytes.
+fn fill_up(operations: &mut Vec<u32>, bytes: u32, random: &mut Random) {
+    let mut left = bytes.saturating_sub(sum(operations) as u32);
+    for _ in 0..2 {
+        let length = left.min(65_535);
+        let place = random.up_to(operations.len() as u32) as usize;
+        if length > 0 {
+            operations.insert(place, length | random.pick(&[0, READ]));
+        }
+        left -= length;
+    }
+    // The list had as many as there may be: one of them goes, if it has no byte.
+    if operations.len() > 64 {
+        if let Some(place) = operations.iter().position(|it| it & 0xFFFF == 0) {
+            operations.remove(place);
+        }
+    }
 }
 
 /// The length of a target's buffer at the edge of a block, mostly of one of the first.
@@ -182,11 +216,6 @@ fn own_words(asked: &mut Asked, random: &mut Random) -> usize {
     [0, random.up_to(3)][random.up_to(1) as usize] as usize
 }
 
-/// The bytes of all operations.
-fn sum(operations: &[u32]) -> usize {
-    operations.iter().map(|it| (it & 0xFFFF) as usize).sum()
-}
-
 fn address(ten_bit: bool, random: &mut Random) -> u32 {
     let most = if ten_bit { 1_023 } else { 127 };
     match random.up_to(3) {
@@ -218,9 +247,10 @@ fn operations(random: &mut Random) -> Vec<u32> {
         }
         direction
             | match random.up_to(7) {
-                0 if long => random.pick(&[254, 255]),
+                0 if long => random.pick(&[254, 255, 256, 257, 509, 510, 511, 766]),
                 1 => 0,
                 2 if long => random.up_to(255),
+                3 if long => random.up_to(1_100),
                 _ => random.up_to(6),
             }
     };
@@ -269,6 +299,7 @@ fn wide(most: u32, fits: u32, random: &mut Random) -> u32 {
     }
 }
 
+/// One thing wrong; lists of too many bytes are few, since they take their time.
 fn spoil_transaction(asked: &mut Asked, length: usize, random: &mut Random) -> usize {
     match random.up_to(4) {
         0 => {
@@ -277,10 +308,10 @@ fn spoil_transaction(asked: &mut Asked, length: usize, random: &mut Random) -> u
         }
         1 => return length + 1,
         2 => return length.saturating_sub(1),
-        3 => {
-            let long = random.pick(&[256, 257, 511, 1_000]);
-            asked.operations.push(long | random.pick(&[0, READ]));
-            return length + long as usize;
+        3 if random.up_to(3) == 0 => {
+            let bytes = random.pick(&[65_536, 65_537, 66_000]);
+            fill_up(&mut asked.operations, bytes, random);
+            return sum(&asked.operations);
         }
         _ => match random.up_to(1) {
             0 => {

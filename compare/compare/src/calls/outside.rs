@@ -1,14 +1,18 @@
-//! What the Rust does with calls that document 01 refuses: rows of docs/DIFFERENCES.md.
+//! What the Rust does with calls that document 01 refuses, and with lists that are not cut: rows of
+//! docs/DIFFERENCES.md.
 //!
 //! The Rust has no such refusals. Its run of a refused call is held to its run of an accepted one
 //! nearby, with the words that the row alters, and as far as the row goes. So a row excuses its own
 //! cases alone, and what no row tells is an error.
 
-use oracle::{Access, Asked, Outcome, PanicKind};
+use std::borrow::Cow;
 
-use super::build::{call, transaction, READ};
+use oracle::{cut, Access, Asked, Description, Outcome, PanicKind};
+
+use super::build::{call, transaction};
 use super::case::Case;
 use super::chip::*;
+use super::pieces::{self, has_long, is_control, is_long};
 use super::run::whole_blocks;
 
 /// The most bytes that are lent, and the most operations.
@@ -28,13 +32,14 @@ pub enum Row {
     MaskAlone,
     ManyOperations,
     LongOperation,
+    LongList,
     EmptyBuffer,
     LongBuffer,
     BufferAside,
 }
 
 impl Row {
-    pub const ALL: [Row; 14] = [
+    pub const ALL: [Row; 15] = [
         Row::NotExpressed,
         Row::SevenBitAddress,
         Row::TenBitAddress,
@@ -46,6 +51,7 @@ impl Row {
         Row::MaskAlone,
         Row::ManyOperations,
         Row::LongOperation,
+        Row::LongList,
         Row::EmptyBuffer,
         Row::LongBuffer,
         Row::BufferAside,
@@ -64,7 +70,8 @@ impl Row {
             Row::Mask255 => "it panics at a mask of 255",
             Row::MaskAlone => "no mask is looked at without a secondary address",
             Row::ManyOperations => "it goes on after 64 operations",
-            Row::LongOperation => "it panics at an operation over 255 bytes",
+            Row::LongOperation => "it panics at an operation over 255 bytes that is not cut",
+            Row::LongList => "it goes on after 65,535 bytes of a list that is cut",
             Row::EmptyBuffer => "it panics at an empty buffer",
             Row::LongBuffer => "it goes on after 65,535 bytes",
             Row::BufferAside => "no buffer is looked at",
@@ -94,6 +101,7 @@ impl Row {
                     .answers(&last)
             }
             Row::LongOperation => transaction(&[256]).zeros(256),
+            Row::LongList => transaction(&[32_768; 2]).zeros(BYTES + 1).goes_through(),
             Row::EmptyBuffer => call(9),
             Row::LongBuffer => call(9)
                 .zeros(BYTES + 1)
@@ -104,22 +112,60 @@ impl Row {
     }
 }
 
-/// The rows that tell the Rust's run of a refused call; or what none of them tells.
+/// The rows that tell what the Rust does with a call otherwise than document 01 and 02 have it; or
+/// what none of them tells.
 pub fn rows(case: &Case) -> Result<Vec<Row>, String> {
-    let Some(given) = RustRun::of(case) else {
-        return Ok(vec![Row::NotExpressed]);
-    };
+    let refused = case.asked.refusal(case.buffer.len()).is_some();
     let mut rows = Vec::new();
-    let expected = match (case.asked.call, case.buffer.len()) {
-        (7, _) => transaction_run(case, &mut rows),
-        (9..=12, 0) => empty_run(case, &mut rows),
-        (9..=12 | 25..=28, _) => long_run(case, &mut rows),
-        _ => run_aside(case, &mut rows),
-    };
-    expected.same(&given)?;
+    if refused {
+        refused_rows(case, &mut rows)?;
+    }
+    if has_long(&case.asked) {
+        uncut_rows(case, &mut rows)?;
+    }
     rows.sort();
     rows.dedup();
     Ok(rows)
+}
+
+fn refused_rows(case: &Case, rows: &mut Vec<Row>) -> Result<(), String> {
+    let Some(given) = RustRun::of(case) else {
+        rows.push(Row::NotExpressed);
+        return Ok(());
+    };
+    let expected = match (case.asked.call, case.buffer.len()) {
+        (7, _) => transaction_run(case, rows),
+        (9..=12, 0) => empty_run(case, rows),
+        (9..=12 | 25..=28, _) => long_run(case, rows),
+        _ => run_aside(case, rows),
+    };
+    expected.same(&given)
+}
+
+/// Given a list that is not cut, the Rust panics where it comes to an operation that takes more
+/// than a piece. Up to there it does what it does with the list already cut.
+fn uncut_rows(case: &Case, rows: &mut Vec<Row>) -> Result<(), String> {
+    let Some(description) = case.asked.description(case.buffer.len()) else {
+        return Ok(());
+    };
+    let operations = &case.asked.operations;
+    let uncut = Description {
+        operations: Cow::Borrowed(operations),
+        ..description.clone()
+    };
+    let given = RustRun::of_described(&uncut, &case.buffer, &case.answers);
+    let left = given.answers_left(given.log.len(), case).len();
+    let used = &case.answers[..case.answers.len() - left];
+    let mut expected = RustRun::of_described(&description, &case.buffer, used);
+    let long = operations.iter().position(|&it| is_long(it));
+    let before = &operations[..long.unwrap_or(operations.len())];
+    if let Some(place) = expected.control(cut(before).len()) {
+        rows.push(Row::LongOperation);
+        expected.cut(place, End::Panics(PanicKind::Long));
+        let bytes = pieces::sum(before);
+        expected.buffer[bytes..].copy_from_slice(&case.buffer[bytes..]);
+    }
+    expected.same(&given)
 }
 
 /// What the Rust does, or is expected to do.
@@ -139,8 +185,15 @@ impl RustRun {
     /// None where the driver's types cannot express the call.
     fn of(case: &Case) -> Option<RustRun> {
         let description = case.asked.description(case.buffer.len())?;
-        let mut buffer = case.buffer.clone();
-        let run = oracle::run(&description, &mut buffer, &case.answers);
+        let Case {
+            buffer, answers, ..
+        } = case;
+        Some(RustRun::of_described(&description, buffer, answers))
+    }
+
+    fn of_described(description: &Description, buffer: &[u8], answers: &[u32]) -> RustRun {
+        let mut buffer = buffer.to_vec();
+        let run = oracle::run(description, &mut buffer, answers);
         let end = match run.outcome {
             Outcome::Panicked(panic) if panic.kind == PanicKind::NackAtOnce => {
                 End::Outcome(Outcome::Done, whole_blocks(&run.log))
@@ -148,11 +201,11 @@ impl RustRun {
             Outcome::Panicked(panic) => End::Panics(panic.kind),
             outcome => End::Outcome(outcome, run.value),
         };
-        Some(RustRun {
+        RustRun {
             log: run.log,
             buffer,
             end,
-        })
+        }
     }
 
     fn of_accepted(case: &Case) -> RustRun {
@@ -164,6 +217,20 @@ impl RustRun {
     fn cut(&mut self, place: usize, end: End) {
         self.log.truncate(place);
         self.end = end;
+    }
+
+    /// The place of the CR2 word that a piece of a transaction begins with, by its number.
+    fn control(&self, piece: usize) -> Option<usize> {
+        let is_control = |place: &usize| is_control(&self.log[*place]);
+        (0..self.log.len()).filter(is_control).nth(piece)
+    }
+
+    /// The place where so many bytes were moved, a flush apart.
+    fn moved(&self, bytes: usize) -> Option<usize> {
+        let log = self.log.iter();
+        let before_flush = log.take_while(|&&it| it != [WRITTEN + ICR, NACKF]).count();
+        let moves = |&it: &usize| [RXDR, WRITTEN + TXDR].contains(&self.log[it][0]);
+        (0..before_flush).filter(moves).nth(bytes - 1)
     }
 
     /// The call's answers that are left before the entry at this place.
@@ -194,8 +261,7 @@ impl RustRun {
     }
 }
 
-/// Call 7: wide addresses are cut, a long operation panics where it is reached, and there may be any
-/// number of operations.
+/// Call 7: wide addresses are cut, and there may be any number of operations and of bytes.
 fn transaction_run(case: &Case, rows: &mut Vec<Row>) -> RustRun {
     let Asked {
         address,
@@ -204,9 +270,10 @@ fn transaction_run(case: &Case, rows: &mut Vec<Row>) -> RustRun {
         ..
     } = case.asked;
     let most = if ten_bit { 0x3FF } else { 0x7F };
-    let mut near = with_short_list(case);
+    let mut near = case.clone();
     near.asked.address &= most;
-    let mut expected = RustRun::of_accepted(&near);
+    near.asked.operations = cut(operations).into_owned();
+    let mut expected = pieces_run(&near);
     if address > most && ten_bit {
         rows.push(Row::TenBitAddress);
     } else if address > most {
@@ -215,66 +282,50 @@ fn transaction_run(case: &Case, rows: &mut Vec<Row>) -> RustRun {
         let starts = expected.log.iter_mut().filter(starts);
         starts.for_each(|entry| entry[1] |= 0x100);
     }
-    // The two part at the CR2 word of a long operation, or of the 64th of more.
-    let long = operations.iter().position(|&word| length(word) > 255);
-    let last = (operations.len() > OPERATIONS).then_some(OPERATIONS - 1);
-    let parted = long.into_iter().chain(last).min();
-    let before = &operations[..parted.unwrap_or(operations.len())];
-    let bytes = before.iter().map(|&word| length(word)).sum();
-    expected.buffer.truncate(bytes);
-    let mut controls = (0..expected.log.len()).filter(|&it| is_control(&expected.log[it]));
-    match parted.and_then(|parted| controls.nth(parted)) {
-        Some(place) if parted == long => {
-            rows.push(Row::LongOperation);
-            expected.cut(place, End::Panics(PanicKind::Long));
-            expected.buffer.extend(&case.buffer[bytes..]);
-        }
-        Some(place) => {
-            rows.push(Row::ManyOperations);
-            let rest = Case {
-                asked: Asked {
-                    operations: operations[OPERATIONS - 1..].to_vec(),
-                    ..case.asked.clone()
-                },
-                buffer: case.buffer[bytes..].to_vec(),
-                answers: expected.answers_left(place, case),
-            };
-            let rest = transaction_run(&rest, rows);
-            let ending = rest.log[0][1] & (AUTOEND | RELOAD);
-            expected.log[place][1] = expected.log[place][1] & !(AUTOEND | RELOAD) | ending;
-            expected.log.truncate(place + 1);
-            expected.log.extend(&rest.log[1..]);
-            expected.buffer.extend(rest.buffer);
-            expected.end = rest.end;
-        }
-        None => expected.buffer.extend(&case.buffer[bytes..]),
+    // An accepted list ends with the last piece of its 64th operation, and with byte 65,535.
+    let last = operations.get(..OPERATIONS).map_or(0, |it| cut(it).len());
+    if operations.len() > OPERATIONS && expected.control(last - 1).is_some() {
+        rows.push(Row::ManyOperations);
+    }
+    if expected.moved(BYTES + 1).is_some() {
+        rows.push(Row::LongList);
     }
     expected
 }
 
-/// Whether an entry of a transaction is the CR2 word that an operation begins with.
-fn is_control(entry: &Access) -> bool {
-    entry[0] == WRITTEN + CR2
-}
-
-fn length(operation: u32) -> usize {
-    (operation & 0xFFFF) as usize
-}
-
-/// The call with its first 64 operations, of which those that are too long are empty.
-fn with_short_list(case: &Case) -> Case {
-    let mut near = case.clone();
-    near.asked.operations.clear();
-    near.buffer.clear();
-    let mut from = 0;
-    for &word in case.asked.operations.iter().take(OPERATIONS) {
-        let length = length(word);
-        let kept = if length > 255 { 0 } else { length };
-        near.asked.operations.push(word & READ | kept as u32);
-        near.buffer.extend(&case.buffer[from..from + kept]);
-        from += length;
-    }
-    near
+/// The run of a list that is cut, of any length. Its first 64 pieces make a list that is accepted,
+/// and so do those from the 64th on, as far as there are 64: only the CR2 word of the 64th has the
+/// ending of the one and the rest of the other.
+fn pieces_run(case: &Case) -> RustRun {
+    let list = &case.asked.operations;
+    let part = |list: &[u32], from: usize, answers: Vec<u32>| Case {
+        asked: Asked {
+            operations: list.to_vec(),
+            ..case.asked.clone()
+        },
+        buffer: case.buffer[from..from + pieces::sum(list)].to_vec(),
+        answers,
+    };
+    let Some(first) = list.get(..OPERATIONS).filter(|it| it.len() < list.len()) else {
+        return RustRun::of_accepted(case);
+    };
+    let mut expected = RustRun::of_accepted(&part(first, 0, case.answers.clone()));
+    let parted = OPERATIONS - 1;
+    let bytes = pieces::sum(&list[..parted]);
+    expected.buffer.truncate(bytes);
+    let Some(place) = expected.control(parted) else {
+        expected.buffer.extend(&case.buffer[bytes..]);
+        return expected;
+    };
+    let answers = expected.answers_left(place, case);
+    let rest = pieces_run(&part(&list[parted..], bytes, answers));
+    let ending = rest.log[0][1] & (AUTOEND | RELOAD);
+    expected.log[place][1] = expected.log[place][1] & !(AUTOEND | RELOAD) | ending;
+    expected.log.truncate(place + 1);
+    expected.log.extend(&rest.log[1..]);
+    expected.buffer.extend(rest.buffer);
+    expected.end = rest.end;
+    expected
 }
 
 /// An AutoAck transfer without a byte panics after its event, if there is to be one.
@@ -303,10 +354,7 @@ fn empty_run(case: &Case, rows: &mut Vec<Row>) -> RustRun {
 fn long_run(case: &Case, rows: &mut Vec<Row>) -> RustRun {
     let (first, rest) = case.buffer.split_at(BYTES);
     let mut expected = RustRun::of_accepted(&case.clone().bytes(first));
-    let log = expected.log.iter();
-    let before_flush = log.take_while(|&&it| it != [WRITTEN + ICR, NACKF]).count();
-    let moves = |&it: &usize| [RXDR, WRITTEN + TXDR].contains(&expected.log[it][0]);
-    let Some(last) = (0..before_flush).filter(moves).nth(BYTES - 1) else {
+    let Some(last) = expected.moved(BYTES) else {
         expected.buffer.extend(rest);
         return expected;
     };
@@ -399,8 +447,8 @@ fn configured_run(mut near: Case, rows: &mut Vec<Row>) -> RustRun {
 #[cfg(test)]
 mod tests {
     use super::*;
-    use crate::calls::answers::Answers;
-    use crate::calls::build::counted;
+    use crate::calls::answers::{Answers, Stretch};
+    use crate::calls::build::{counted, READ};
     use crate::calls::generate;
     use crate::random::Random;
 
@@ -408,19 +456,21 @@ mod tests {
     fn each_row_has_an_example() {
         for row in Row::ALL {
             let case = row.example();
-            assert!(case.asked.refusal(case.buffer.len()).is_some(), "{row:?}");
-            assert_eq!(rows(&case), Ok(vec![row]));
+            let refused = case.asked.refusal(case.buffer.len()).is_some();
+            assert_eq!(refused, row != Row::LongOperation, "{row:?}");
+            let mut rows = rows(&case).unwrap();
+            // A list of so many bytes has an operation that takes more than a piece.
+            rows.retain(|&it| it == row || row != Row::LongList || it != Row::LongOperation);
+            assert_eq!(rows, [row]);
         }
     }
 
     #[test]
-    fn every_refused_call_is_told() {
+    fn every_call_is_told() {
         let mut random = Random::new(3);
         for _ in 0..5_000 {
             let case = generate::case(&mut random);
-            if case.asked.refusal(case.buffer.len()).is_some() {
-                assert!(rows(&case).is_ok(), "{}", case.text(""));
-            }
+            assert!(rows(&case).is_ok(), "{}", case.text(""));
         }
     }
 
@@ -455,6 +505,10 @@ mod tests {
         let long = Row::LongBuffer;
         assert_eq!(with(long, 2 * BYTES - 1), Ok(vec![]));
         assert_eq!(with(long, 2 * BYTES), Ok(vec![long]));
+        let list = Row::LongList;
+        let answers = list.example().answers.len();
+        assert_eq!(with(list, answers - 2), Ok(vec![Row::LongOperation]));
+        assert_eq!(with(list, answers - 1), Ok(vec![Row::LongOperation, list]));
         let mut case = transaction(&[0, 256]).zeros(256).answers(&[TXE, 0]);
         assert_eq!(rows(&case), Ok(vec![]));
         case.answers.push(TCR);
@@ -480,6 +534,32 @@ mod tests {
                 Row::LongOperation
             ])
         );
+    }
+
+    #[test]
+    fn long_lists_are_told_wherever_they_end() {
+        let mut random = Random::new(1);
+        let lists: [&[u32]; 5] = [
+            &[65_535, 1],
+            &[READ | 65_535, READ | 65_535],
+            &[1, READ | 65_535, 300],
+            &[1_021; 65],
+            &[300; 67],
+        ];
+        for list in lists {
+            let length = pieces::sum(list);
+            for word in [0, BERR, NACKF, STOPF] {
+                let mut case = transaction(list).bytes(&counted(length));
+                let stretch = Stretch {
+                    after: random.up_to(2 * length as u32),
+                    word,
+                    polls: 2,
+                };
+                let choices = Answers::to_the_end(7, length, random.split());
+                case.answers = generate::chosen(&case, choices.stretched(stretch));
+                assert!(rows(&case).is_ok(), "{list:?} and {word:X}");
+            }
+        }
     }
 
     #[test]

@@ -182,6 +182,57 @@ pub fn transactions() -> Vec<Described> {
                 .answers(&[STOPF]),
         ),
         (
+            "256 bytes out: 255 and 1, joined by a reload",
+            transaction(&[256])
+                .zeros(256)
+                .answers(&[1, 0])
+                .answers(&[2; 255])
+                .answers(&[0x80, 1, 0, 2, 0x20]),
+        ),
+        (
+            "a byte out and 256 in, at an address of ten bits",
+            transaction(&[1, READ | 256])
+                .ten_bit(0x123)
+                .bytes(&[&[0x12][..], &[0; 256]].concat())
+                .goes_through(),
+        ),
+        (
+            "no byte out: one empty piece",
+            transaction(&[0]).answers(&[1, 0, 0x20]),
+        ),
+        (
+            "510 bytes out are two pieces, after no byte and before one in",
+            transaction(&[0, 510, READ | 1])
+                .bytes(&[&counted(510)[..], &[0]].concat())
+                .goes_through(),
+        ),
+        (
+            "TC and a stop are not awaited inside an operation",
+            transaction(&[256])
+                .bytes(&counted(256))
+                .answers(&[TXE, 0])
+                .asks_for(255)
+                .answers(&[TC, STOPF, TC | TCR, TXE, 0, TXIS, TC | TCR, STOPF]),
+        ),
+        (
+            "a byte of the second piece is not acknowledged",
+            transaction(&[256])
+                .bytes(&counted(256))
+                .answers(&[TXE, 0])
+                .asks_for(255)
+                .answers(&[TCR, TXE, 0])
+                .nacks()
+                .answers(&[STOPF]),
+        ),
+        (
+            "arbitration is lost in the second piece of a read",
+            transaction(&[READ | 256])
+                .zeros(256)
+                .answers(&[TXE, 0])
+                .receives(255)
+                .answers(&[TCR, ARLO, STOPF]),
+        ),
+        (
             "64 operations without a byte",
             transaction(&[0; 64])
                 .answers(&[TXE, 0, TCR].repeat(63))
@@ -406,8 +457,8 @@ fn refusals() -> Vec<Described> {
         ("no such listen kind", call(4).listening(3)),
         ("no such listen kind", call(5).listening(!0)),
         (
-            "an address of more than seven bits, before a long operation",
-            list(&[256], 256).asking(|asked| asked.address = 128),
+            "an address of more than seven bits, before a buffer that is too long",
+            list(&[32_768; 2], 65_536).asking(|asked| asked.address = 128),
         ),
         (
             "an address of more than ten bits",
@@ -436,10 +487,21 @@ fn refusals() -> Vec<Described> {
         ),
         ("a buffer that is a byte too long", list(&[1], 2)),
         (
-            "a buffer that is a byte too short, before a long operation",
+            "a buffer that is a byte too short, for a long operation",
             list(&[256], 255),
         ),
-        ("a long operation", list(&[1, READ | 256], 257)),
+        (
+            "65 operations, of which one is long",
+            list(&[&[0; 64][..], &[256]].concat(), 256),
+        ),
+        (
+            "a wrong sum, before a buffer that is too long",
+            list(&[32_768; 2], 65_537),
+        ),
+        (
+            "operations of too many bytes",
+            list(&[32_768, READ | 32_768], 65_536),
+        ),
         ("nothing to take in", call(9)),
         ("nothing to put out", call(10)),
         (
@@ -477,7 +539,7 @@ mod tests {
             .iter()
             .filter_map(|(_, case)| case.asked.refusal(case.buffer.len()))
             .collect();
-        assert!(refusals.into_iter().eq(8..=12));
+        assert!(refusals.into_iter().eq([8, 10, 11, 12]));
         for length in [0, 255, 256, 511] {
             let of_length = |(_, case): &&Described| case.buffer.len() == length;
             assert!(calls.iter().filter(of_length).count() >= 2);

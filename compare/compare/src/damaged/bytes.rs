@@ -1,6 +1,6 @@
 //! What a call is lent: that of a real run, damaged, or anything.
 
-use oracle::Asked;
+use oracle::{cut, Asked};
 
 use crate::calls::case::Case;
 use crate::calls::generate;
@@ -83,7 +83,7 @@ impl Bytes {
                 5 => self.saved = any_saved(self.description.call, random),
                 6 => damage_length(&mut self.answers, random),
                 7 => damage_bytes(&mut self.answers, random),
-                8 => self.add_long_operation(),
+                8 => self.add_operation(random),
                 _ => damage_saved(&mut self.saved, random),
             }
             if random.up_to(2) != 0 {
@@ -92,11 +92,32 @@ impl Bytes {
         }
     }
 
-    /// One operation more, which is longer than any may be.
-    fn add_long_operation(&mut self) {
-        const LONG: u32 = 256;
-        self.operations.extend(rattle::bytes(&[LONG]));
-        self.buffer.resize(self.buffer.len() + LONG as usize, 0);
+    /// One operation more, with its bytes: one that takes more than a piece, now and then one that
+    /// is as long as may be, so that the buffer is mostly too long.
+    fn add_operation(&mut self, random: &mut Random) {
+        let length = match random.up_to(63) {
+            0 if self.buffer.len() < 10_000 => 65_535,
+            _ => random.pick(&[256, 510, 511]),
+        };
+        self.operations.extend(rattle::bytes(&[length]));
+        self.buffer.resize(self.buffer.len() + length as usize, 0);
+    }
+
+    /// How many pieces the call has: a saved call that has not ended is at one of them, or at the
+    /// first of none.
+    pub fn pieces(&self) -> usize {
+        let length = self.buffer.len();
+        match self.description.call {
+            7 => cut(&self.operations()).len(),
+            9..=12 => 1,
+            25..=28 => length.div_ceil(255),
+            _ => 0,
+        }
+    }
+
+    /// The operations, as far as they are looked at.
+    fn operations(&self) -> Vec<u32> {
+        self.operations.chunks_exact(4).take(65).map(word).collect()
     }
 
     fn description_word(&mut self, random: &mut Random) -> &mut u32 {
@@ -121,7 +142,7 @@ impl Bytes {
         let some = |word| (word != Description::NONE).then_some(word);
         let it = self.description;
         let operations = match it.call {
-            7 => self.operations.chunks_exact(4).take(65).map(word).collect(),
+            7 => self.operations(),
             _ => Vec::new(),
         };
         let asked = Asked {
@@ -221,7 +242,7 @@ fn any_saved(call: u32, random: &mut Random) -> Vec<u8> {
     };
     let words = [
         call,
-        random.of_length(7),
+        random.of_length(10),
         random.of_length(9),
         random.word(),
         [random.of_length(20), u32::MAX][random.up_to(1) as usize],

@@ -6,9 +6,11 @@ use oracle::{Access, Asked};
 
 use super::cut;
 use super::room::{Log, Room, BLANK};
+use super::shown::Shown;
 use super::truth::{Truth, Uncut};
 use crate::calls::case::Case;
 use crate::calls::outside::{self, Row};
+use crate::calls::pieces::has_long;
 use crate::random::Random;
 use crate::rattle::{self, saved, Advanced, Description, Next, ENTRY, SAVED, WAITING};
 
@@ -55,8 +57,10 @@ pub struct Ended {
     /// The register that a waiting run waits for.
     pub awaited: u32,
     pub panics: bool,
-    /// Of a refused call, what the Rust does.
+    /// What the Rust does with a refused call, and with a list that is not cut.
     pub rows: Vec<Row>,
+    /// Where it was cut, of the places that tell something.
+    pub cuts: Vec<Shown>,
     pub saved: [u8; SAVED],
 }
 
@@ -81,9 +85,9 @@ impl Checker {
         let uncut = self.truth.run(input.asked, input.buffer, input.answers);
         let mut ended = whole(&mut self.lent, input, &uncut)?;
         if let Some(random) = cuts {
-            cut::check(&mut self.lent, input, &uncut, ended.awaited, random)?;
+            ended.cuts = cut::check(&mut self.lent, input, &uncut, ended.awaited, random)?;
         }
-        if uncut.is_refused() {
+        if uncut.is_refused() || has_long(input.asked) {
             ended.rows = outside::rows(&input.case())?;
         }
         Ok(ended)
@@ -131,6 +135,7 @@ fn whole(lent: &mut Lent, input: Input, uncut: &Uncut) -> Result<Ended, String> 
         awaited,
         panics: uncut.panics,
         rows: Vec::new(),
+        cuts: Vec::new(),
         saved: lent.saved,
     })
 }

@@ -1,13 +1,16 @@
-//! A run cut at random: answers and log places in portions of any size, with refused advances and
-//! questions for the next access in between. Document 01 says of each advance what it has to give.
+//! A run cut at random, or where a later piece of an operation begins: answers and log places in
+//! portions of any size, with refused advances and questions for the next access in between.
+//! Document 01 says of each advance what it has to give.
 
 use oracle::Access;
 
 use super::check::{self, same, Input, Lent};
+use super::shown::Shown;
 use super::truth::Uncut;
 use super::wrong;
 use crate::calls::build::READ;
 use crate::calls::chip::RXDR;
+use crate::calls::pieces;
 use crate::random::Random;
 use crate::rattle::{self, Advanced, ENTRY, FULL, WAITING};
 
@@ -24,7 +27,7 @@ pub fn check(
     uncut: &Uncut,
     awaited: u32,
     random: &mut Random,
-) -> Result<(), String> {
+) -> Result<Vec<Shown>, String> {
     check::begin(lent, input, uncut, random.up_to(7) as usize)?;
     let answers = [rattle::bytes(input.answers), &STRAY].concat();
     lent.answers.hold(&answers, random.up_to(7) as usize);
@@ -35,7 +38,10 @@ pub fn check(
         model: Model::new(input),
         made: 0,
         used: 0,
+        borders: pieces::later_controls(input.asked, uncut.log),
+        shown: Vec::new(),
     };
+    let at_borders = random.up_to(1) == 0;
     let most_answers = portion(uncut.used, random);
     let most_places = portion(uncut.log.len(), random);
     let mut wrongs = 0;
@@ -47,8 +53,11 @@ pub fn check(
             wrongs += 1;
             wrong::check(lent, input, random)?;
         }
-        let answers = random.up_to(most_answers) as usize;
-        let places = random.up_to(most_places) as usize;
+        let portion = match cut.next_border() {
+            Some(border) if at_borders => cut.up_to(border, random),
+            _ => [most_answers, most_places].map(|most| random.up_to(most) as usize),
+        };
+        let [answers, places] = portion;
         let given = cut.advance(lent, answers, places, random)?;
         if turn % (1 + input.buffer.len() / 1_024) == 0 {
             check::buffer(&lent.buffer, &cut.model.buffer)?;
@@ -61,7 +70,8 @@ pub fn check(
     cut.advance(lent, random.up_to(3) as usize, 3, random)?;
     check::next(lent, input, uncut, cut.made, awaited)?;
     check::buffer(&lent.buffer, uncut.buffer)?;
-    check::buffer(&lent.buffer, &cut.model.buffer)
+    check::buffer(&lent.buffer, &cut.model.buffer)?;
+    Ok(cut.shown)
 }
 
 /// The greatest portion of a cut, for a run that takes so many in all.
@@ -80,9 +90,31 @@ struct Cut<'a> {
     model: Model<'a>,
     made: usize,
     used: usize,
+    /// The entries that begin a later piece of an operation, and whether an advance ended beside
+    /// one.
+    borders: Vec<usize>,
+    shown: Vec<Shown>,
 }
 
 impl Cut<'_> {
+    /// The next place just before or just after an entry that begins a later piece.
+    fn next_border(&self) -> Option<usize> {
+        let after = self.borders.partition_point(|&border| border < self.made);
+        let border = *self.borders.get(after)?;
+        Some(border.max(self.made + 1).min(border + 1))
+    }
+
+    /// Answers and places by which an advance comes to this place: either of them ends there. After
+    /// its last answer an advance goes on as far as it writes.
+    fn up_to(&self, place: usize, random: &mut Random) -> [usize; 2] {
+        let entries = &self.uncut.log[self.made..place];
+        let reads = entries.iter().filter(|entry| entry[0] < 0x100).count();
+        match random.up_to(1) {
+            0 => [reads + random.up_to(2) as usize, entries.len()],
+            _ => [reads, entries.len() + random.up_to(2) as usize],
+        }
+    }
+
     /// One advance, with so many answers at most.
     fn advance(
         &mut self,
@@ -111,6 +143,12 @@ impl Cut<'_> {
         entries.iter().for_each(|&entry| self.model.make(entry));
         self.made = made;
         self.used += given.used;
+        if self.borders.binary_search(&made).is_ok() {
+            self.shown.push(Shown::CutBefore);
+        }
+        if made > 0 && self.borders.binary_search(&(made - 1)).is_ok() {
+            self.shown.push(Shown::CutAfter);
+        }
         check::state(lent, self.input, self.uncut, self.made)?;
         Ok(given)
     }

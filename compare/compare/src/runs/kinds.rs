@@ -1,13 +1,16 @@
 //! Kinds of run that have to occur, beside every call and outcome: long buffers that come to their
-//! end, long polls, and what the Rust does with refused calls.
+//! end, long operations, long polls, saved calls at every piece, and what the Rust does with
+//! refused calls and with lists that are not cut.
 
-use std::collections::BTreeMap;
+use std::collections::{BTreeMap, BTreeSet};
 use std::fmt;
 
 use oracle::Access;
 
 use super::check::{Ended, Input};
 use super::polls::{self, Wait, WAITS};
+use super::shown::{self, Shown};
+use crate::calls::build::READ;
 use crate::calls::chip::{ICR, NACKF, TXDR, WRITTEN};
 use crate::calls::outside::Row;
 
@@ -26,7 +29,38 @@ enum Kind {
     /// And it put out many zeros after them.
     Zeros(u32),
     Polled(u32, Wait),
-    Refused(Row),
+    Shown(Shown),
+    Saved(Saved),
+    Row(Row),
+}
+
+/// Saved calls of a transaction whose piece or byte number was put there.
+#[derive(Clone, Copy, Debug, PartialEq, Eq, PartialOrd, Ord)]
+pub enum Saved {
+    /// At its last piece, which is taken, and at the one after, which is refused.
+    LastPiece,
+    PastPiece,
+    /// At the byte after the last of its piece and one more, and at the next, which is refused.
+    LastByte,
+    PastByte,
+}
+
+impl Saved {
+    const ALL: [Saved; 4] = [
+        Saved::LastPiece,
+        Saved::PastPiece,
+        Saved::LastByte,
+        Saved::PastByte,
+    ];
+
+    fn words(self) -> &'static str {
+        match self {
+            Saved::LastPiece => "at the last piece, taken",
+            Saved::PastPiece => "at the piece after the last, refused",
+            Saved::LastByte => "at the piece's length + 1, taken",
+            Saved::PastByte => "at the piece's length + 2, refused",
+        }
+    }
 }
 
 impl Kind {
@@ -34,8 +68,10 @@ impl Kind {
         let full = TRANSFERS.map(Kind::Full);
         let zeros = TRANSMISSIONS.map(Kind::Zeros);
         let polled = WAITS.map(|(call, wait)| Kind::Polled(call, wait));
-        let refused = Row::ALL.map(Kind::Refused);
-        [&full[..], &zeros, &polled, &refused].concat()
+        let shown: Vec<Kind> = Shown::all().into_iter().map(Kind::Shown).collect();
+        let saved = Saved::ALL.map(Kind::Saved);
+        let rows = Row::ALL.map(Kind::Row);
+        [&full[..], &zeros, &polled, &shown, &saved, &rows].concat()
     }
 }
 
@@ -47,24 +83,39 @@ impl fmt::Display for Kind {
             Kind::Polled(call, wait) => {
                 write!(f, "call {call}: long polls for {}", wait.words())
             }
-            Kind::Refused(row) => write!(f, "refused calls, of the Rust: {}", row.words()),
+            Kind::Shown(shown) => write!(f, "call 7: {}", shown.words()),
+            Kind::Saved(saved) => write!(f, "call 7: saved calls {}", saved.words()),
+            Kind::Row(row) => write!(f, "rows of docs/DIFFERENCES.md, the Rust: {}", row.words()),
         }
     }
 }
 
 /// How often each kind of run occurred.
 #[derive(Default)]
-pub struct Kinds(BTreeMap<Kind, u64>);
+pub struct Kinds {
+    counts: BTreeMap<Kind, u64>,
+    /// The lengths of operations that were done, of writes and of reads.
+    done: [BTreeSet<u32>; 2],
+}
 
 impl Kinds {
     /// Counts a run, of which this is the log.
     pub fn count(&mut self, input: Input, ended: &Ended, log: &[Access]) {
         let (call, length) = (input.asked.call, input.buffer.len());
         for &row in &ended.rows {
-            self.add(Kind::Refused(row));
+            self.add(Kind::Row(row));
         }
         for wait in polls::long(input.asked, length, log) {
             self.add(Kind::Polled(call, wait));
+        }
+        let shown = shown::of(input.asked, ended.report, log);
+        for shown in shown.into_iter().chain(ended.cuts.iter().copied()) {
+            self.add(Kind::Shown(shown));
+        }
+        if call == 7 && ended.report == 0 {
+            for word in &input.asked.operations {
+                self.done[usize::from(word & READ != 0)].insert(word & 0xFFFF);
+            }
         }
         let full = ended.report == 0 && ended.value as usize == length;
         if full && length > LONG && TRANSFERS.contains(&call) {
@@ -77,27 +128,43 @@ impl Kinds {
         }
     }
 
+    /// Counts a saved call.
+    pub fn count_saved(&mut self, saved: Saved) {
+        self.add(Kind::Saved(saved));
+    }
+
     fn add(&mut self, kind: Kind) {
-        *self.0.entry(kind).or_default() += 1;
+        *self.counts.entry(kind).or_default() += 1;
     }
 
     fn occurred(&self, kind: Kind) -> u64 {
-        self.0.get(&kind).copied().unwrap_or_default()
+        self.counts.get(&kind).copied().unwrap_or_default()
     }
 
     pub fn print(&self) {
         for kind in Kind::all() {
             println!("{kind}: {}", self.occurred(kind));
         }
+        for (name, done) in ["written", "read"].iter().zip(&self.done) {
+            let around = shown::lengths().filter(|length| done.contains(length));
+            let (reached, all) = (around.count(), shown::lengths().count());
+            println!("call 7: lengths around a multiple of 255, {name}: {reached} of {all}");
+        }
     }
 
-    /// Whether every kind of run occurred.
+    /// Whether every kind of run occurred, and every length.
     pub fn all_reached(&self) -> bool {
-        self.missing().next().is_none()
+        self.missing().next().is_none() && self.missing_lengths().next().is_none()
     }
 
     pub fn print_missing(&self) {
         self.missing().for_each(|kind| println!("runs: no {kind}"));
+        self.missing_lengths()
+            .for_each(|length| println!("runs: no operation of {length} bytes in both directions"));
+    }
+
+    fn missing_lengths(&self) -> impl Iterator<Item = u32> + '_ {
+        shown::lengths().filter(|length| !self.done.iter().all(|done| done.contains(length)))
     }
 
     fn missing(&self) -> impl Iterator<Item = Kind> + '_ {
@@ -119,7 +186,7 @@ mod tests {
         let mut kinds = Kinds::default();
         kinds.count(case.into(), &ended, checker.last().0);
         assert!(!kinds.all_reached());
-        kinds.0.into_keys().collect()
+        kinds.counts.into_keys().collect()
     }
 
     #[test]
@@ -140,6 +207,6 @@ mod tests {
         let polls = call(8).answers(&[0; polls::LONG]);
         assert_eq!(kinds(&polls), [Kind::Polled(8, Wait::Event)]);
         let row = Row::MaskAlone;
-        assert_eq!(kinds(&row.example()), [Kind::Refused(row)]);
+        assert_eq!(kinds(&row.example()), [Kind::Row(row)]);
     }
 }

@@ -1,15 +1,18 @@
-//! Long calls: a long poll in every wait, long lists, many filling zeros, and every transfer of a
-//! target at the edges of all blocks.
+//! Long calls: a long poll in every wait, long lists, operations at the edges of all pieces, many
+//! filling zeros, and every transfer of a target at the edges of all blocks.
 
 use super::kinds::{TRANSFERS, TRANSMISSIONS};
 use super::progress::Stop;
+use super::shown;
 use super::words;
 use super::Comparison;
 use crate::calls::answers::{Answers, Stretch};
 use crate::calls::build::{call, counted, READ};
 use crate::calls::case::Case;
-use crate::calls::chip::{ARLO, BERR, NACKF, STOPF};
+use crate::calls::chip::{ARLO, BERR, NACKF, STOPF, TC, WRITTEN};
 use crate::calls::generate;
+use crate::calls::pieces;
+use crate::calls::run::Run;
 use crate::random::Random;
 
 /// Buffers up to this length are left at every edge, longer ones at their end and somewhere.
@@ -34,7 +37,10 @@ pub fn all(comparison: &mut Comparison) -> Result<(), Stop> {
         comparison.progress.part = format!("long polls of {name}");
         polls(comparison, case)?;
     }
+    between_pieces(comparison)?;
     lists(comparison, &mut random)?;
+    operations(comparison, &mut random)?;
+    many_pieces(comparison, &mut random)?;
     for length in [1, 255, 256, 766, 65_535] {
         comparison.progress.part = format!("filling zeros after {length} bytes");
         for number in TRANSMISSIONS {
@@ -50,7 +56,7 @@ pub fn all(comparison: &mut Comparison) -> Result<(), Stop> {
         }
     }
     let runs = comparison.progress.runs - before;
-    println!("runs: long polls, lists, zeros and buffers: {runs} runs");
+    println!("runs: long polls, lists, operations, zeros and buffers: {runs} runs");
     Ok(())
 }
 
@@ -96,20 +102,160 @@ fn lists(comparison: &mut Comparison, random: &mut Random) -> Result<(), Stop> {
         for directions in [[0, 0], [READ, READ], [0, READ], [READ, 0]] {
             let pair = [lengths[0] | directions[0], lengths[1] | directions[1]];
             let case = words::operations(&pair.repeat(32));
-            let length = case.buffer.len();
-            answered(
-                comparison,
-                case.clone(),
-                Answers::to_the_end(7, length, random.split()),
-            )?;
+            goes_well(comparison, &case, random)?;
             for word in ERRORS.repeat(8) {
-                let stretch = Stretch {
-                    after: random.up_to(2 * length as u32 + 200),
-                    word,
-                    polls: random.up_to(3),
+                fails(comparison, &case, word, random)?;
+            }
+        }
+    }
+    Ok(())
+}
+
+/// A transaction goes to its end.
+fn goes_well(comparison: &mut Comparison, case: &Case, random: &mut Random) -> Result<(), Stop> {
+    let choices = Answers::to_the_end(7, case.buffer.len(), random.split());
+    answered(comparison, case.clone(), choices)
+}
+
+/// A transaction meets a status word somewhere.
+fn fails(
+    comparison: &mut Comparison,
+    case: &Case,
+    word: u32,
+    random: &mut Random,
+) -> Result<(), Stop> {
+    let length = case.buffer.len();
+    let stretch = Stretch {
+        after: random.up_to(2 * length as u32 + 200),
+        word,
+        polls: random.up_to(3),
+    };
+    let choices = Answers::to_the_end(7, length, random.split());
+    answered(comparison, case.clone(), choices.stretched(stretch))
+}
+
+/// Operations of every length around a multiple of 255, out and in, to their end; and to an error
+/// somewhere or beside another one, short ones both. A short one is put beside each of some, in
+/// both orders, in every pair of directions and at both kinds of address.
+fn operations(comparison: &mut Comparison, random: &mut Random) -> Result<(), Stop> {
+    for length in shown::lengths() {
+        comparison.progress.part = format!("operations of {length} bytes");
+        for direction in [0, READ] {
+            let operation = direction | length;
+            let alone = at_some_address(words::operations(&[operation]), random);
+            goes_well(comparison, &alone, random)?;
+            let is_short = length as usize <= SHORT;
+            if is_short || random.up_to(1) == 0 {
+                fails(comparison, &alone, random.pick(&ERRORS), random)?;
+            } else {
+                let other = random.pick(&[0, 1, 255, 256, 65_535 - length]);
+                let list = beside(operation, other, random);
+                let case = at_some_address(words::operations(&list), random);
+                goes_well(comparison, &case, random)?;
+            }
+            if is_short {
+                short_operations(comparison, operation, random)?;
+            }
+        }
+    }
+    Ok(())
+}
+
+fn short_operations(
+    comparison: &mut Comparison,
+    operation: u32,
+    random: &mut Random,
+) -> Result<(), Stop> {
+    for other in [0, 1, 254, 255, 256, 510, 511] {
+        for other in [other, READ | other] {
+            for list in [[operation, other], [other, operation]] {
+                let case = words::operations(&list);
+                for case in [case.clone(), case.ten_bit(0x2A5)] {
+                    goes_well(comparison, &case, random)?;
+                    fails(comparison, &case, random.pick(&ERRORS), random)?;
+                }
+            }
+        }
+    }
+    Ok(())
+}
+
+/// An operation and another of so many bytes, if there is room for it, in some order and direction.
+fn beside(operation: u32, other: u32, random: &mut Random) -> Vec<u32> {
+    let other = other.min(65_535 - (operation & 0xFFFF)) | random.pick(&[0, READ]);
+    match random.up_to(1) {
+        0 => vec![operation, other],
+        _ => vec![other, operation],
+    }
+}
+
+fn at_some_address(case: Case, random: &mut Random) -> Case {
+    match random.up_to(1) {
+        0 => case,
+        _ => case.ten_bit(random.up_to(0x3FF)),
+    }
+}
+
+/// Lists of as many pieces as there may be: an operation of 65,535 bytes with empty ones before it,
+/// after it and around it, and 64 operations with a byte in their last piece; all of one direction,
+/// by turns of two, and mixed. And one byte too many.
+fn many_pieces(comparison: &mut Comparison, random: &mut Random) -> Result<(), Stop> {
+    comparison.progress.part = "lists of 320 pieces".to_string();
+    let mut lists = vec![[1_021; 64]];
+    for place in [0, 1, 31, 62, 63] {
+        let mut list = [0; 64];
+        list[place] = 65_535;
+        lists.push(list);
+    }
+    for list in lists {
+        for turn in 0..4 {
+            let mut list = list;
+            for (place, word) in list.iter_mut().enumerate() {
+                *word |= match turn {
+                    0 => 0,
+                    1 => READ,
+                    2 => [0, READ][place % 2],
+                    _ => random.pick(&[0, READ]),
                 };
-                let choices = Answers::to_the_end(7, length, random.split());
-                answered(comparison, case.clone(), choices.stretched(stretch))?;
+            }
+            let case = at_some_address(words::operations(&list), random);
+            goes_well(comparison, &case, random)?;
+            for word in ERRORS {
+                fails(comparison, &case, word, random)?;
+            }
+            let over = 65_536 - pieces::sum(&list) as u32;
+            if let Some(short) = list.iter_mut().find(|word| **word & 0xFFFF < 65_535) {
+                *short += over;
+            }
+            goes_well(comparison, &words::operations(&list), random)?;
+        }
+    }
+    for list in [[32_768; 2], [65_535, READ | 1], [READ, READ | 65_535]] {
+        goes_well(comparison, &words::operations(&list), random)?;
+    }
+    Ok(())
+}
+
+/// Long polls around the border between the two pieces of an operation, also after a flag that is
+/// not awaited there and after an error.
+fn between_pieces(comparison: &mut Comparison) -> Result<(), Stop> {
+    comparison.progress.part = "long polls between pieces".to_string();
+    for list in [[256], [READ | 256]] {
+        let mut case = words::operations(&list);
+        let choices = || Answers::to_the_end(7, 256, Random::new(1));
+        case.answers = generate::chosen(&case, choices());
+        let log = Run::of(&case).log;
+        let border = pieces::later_controls(&case.asked, &log)[0];
+        let reads = log[..border].iter().filter(|entry| entry[0] < WRITTEN);
+        let border = reads.count() as u32;
+        for after in border - 3..=border + 4 {
+            for word in [&[0, TC][..], &ERRORS].concat() {
+                let stretch = Stretch {
+                    after,
+                    word,
+                    polls: POLLS,
+                };
+                answered(comparison, case.clone(), choices().stretched(stretch))?;
             }
         }
     }

@@ -2,8 +2,8 @@
 
 use oracle::{Access, Asked};
 
-use crate::calls::build::READ;
 use crate::calls::chip::*;
+use crate::calls::pieces::{self, Piece};
 
 /// So many reads without anything else between them are a long poll. Each poll of a start wait has
 /// two.
@@ -18,6 +18,7 @@ pub enum Wait {
     ByteIn,
     Complete,
     Reload,
+    ReloadInside,
     Stop,
     StopAfterError,
     Event,
@@ -33,6 +34,7 @@ impl Wait {
             Wait::ByteIn => "byte in",
             Wait::Complete => "TC",
             Wait::Reload => "TCR",
+            Wait::ReloadInside => "TCR inside an operation",
             Wait::Stop => "STOPF",
             Wait::StopAfterError => "STOPF after an error",
             Wait::Event => "event",
@@ -42,13 +44,14 @@ impl Wait {
 }
 
 /// Every wait of every call.
-pub const WAITS: [(u32, Wait); 28] = [
+pub const WAITS: [(u32, Wait); 29] = [
     (6, Wait::Disabled),
     (7, Wait::Start),
     (7, Wait::ByteOut),
     (7, Wait::ByteIn),
     (7, Wait::Complete),
     (7, Wait::Reload),
+    (7, Wait::ReloadInside),
     (7, Wait::Stop),
     (7, Wait::StopAfterError),
     (8, Wait::Event),
@@ -79,7 +82,11 @@ pub fn long(asked: &Asked, length: usize, log: &[Access]) -> Vec<Wait> {
     if log.len() < LONG {
         return waits;
     }
-    let mut place = Place::new(asked, length);
+    let pieces = match asked.call {
+        7 => pieces::of(&asked.operations),
+        _ => Vec::new(),
+    };
+    let mut place = Place::new(asked, length, &pieces);
     let mut polls = 0;
     for &access in log {
         polls = if place.is_poll(access) { polls + 1 } else { 0 };
@@ -93,9 +100,9 @@ pub fn long(asked: &Asked, length: usize, log: &[Access]) -> Vec<Wait> {
 /// How far a run has come.
 struct Place<'a> {
     call: u32,
-    /// The operations of a transaction that are still to begin.
-    operations: &'a [u32],
-    /// The bytes that are still to be moved, of a transaction those of its operation.
+    /// The pieces of a transaction that are still to begin.
+    pieces: &'a [Piece],
+    /// The bytes that are still to be moved, of a transaction those of its piece.
     left: usize,
     receives: bool,
     /// Neither a start nor an event has come yet.
@@ -104,10 +111,10 @@ struct Place<'a> {
 }
 
 impl<'a> Place<'a> {
-    fn new(asked: &'a Asked, length: usize) -> Self {
+    fn new(asked: &Asked, length: usize, pieces: &'a [Piece]) -> Self {
         Place {
             call: asked.call,
-            operations: &asked.operations,
+            pieces,
             left: length,
             receives: matches!(asked.call, 9 | 11 | 25 | 27),
             before: matches!(asked.call, 8 | 11..=13 | 24 | 27..=29),
@@ -123,8 +130,9 @@ impl<'a> Place<'a> {
             _ if self.before => Wait::Event,
             _ if self.left > 0 && self.receives => Wait::ByteIn,
             _ if self.left > 0 => Wait::ByteOut,
-            7 => match self.operations.first() {
-                Some(next) if (next & READ != 0) == self.receives => Wait::Reload,
+            7 => match self.pieces.first() {
+                Some(next) if next.later => Wait::ReloadInside,
+                Some(next) if next.reads == self.receives => Wait::Reload,
                 Some(_) => Wait::Complete,
                 None => Wait::Stop,
             },
@@ -159,7 +167,7 @@ impl<'a> Place<'a> {
         const CONTROLLED: u32 = WRITTEN + CR2;
         const CLEARED: u32 = WRITTEN + ICR;
         match (self.call, code) {
-            (7, CONTROLLED) => self.begin_operation(),
+            (7, CONTROLLED) => self.begin_piece(),
             (7, CLEARED) => self.failed |= word & STOPF == 0,
             (_, RXDR | SENT) => self.left = self.left.saturating_sub(1),
             // Whatever a target does after a status word, its event has come.
@@ -167,11 +175,11 @@ impl<'a> Place<'a> {
         }
     }
 
-    fn begin_operation(&mut self) {
-        if let [first, rest @ ..] = self.operations {
-            self.left = (first & 0xFFFF) as usize;
-            self.receives = first & READ != 0;
-            self.operations = rest;
+    fn begin_piece(&mut self) {
+        if let [first, rest @ ..] = self.pieces {
+            self.left = first.size;
+            self.receives = first.reads;
+            self.pieces = rest;
         }
         self.before = true;
     }
@@ -180,7 +188,7 @@ impl<'a> Place<'a> {
 #[cfg(test)]
 mod tests {
     use super::*;
-    use crate::calls::build::{call, transaction, MANUAL, MATCH};
+    use crate::calls::build::{call, transaction, MANUAL, MATCH, READ};
     use crate::calls::case::Case;
     use crate::calls::run::Run;
 
@@ -215,6 +223,25 @@ mod tests {
         assert_eq!(shown(stopped, &[TXE]), [Wait::StopAfterError]);
         let second = begun(&[1, READ]).answers(&[TXIS, TC]);
         assert_eq!(shown(second, &[TXE, START]), [Wait::Start]);
+    }
+
+    #[test]
+    fn waits_of_a_long_operation() {
+        let moved = |list: &[u32]| {
+            let case = transaction(list).zeros(256).answers(&[TXE, 0]);
+            waits(&idle(case.asks_for(255), &[TXE, TC]))
+        };
+        assert_eq!(moved(&[256]), [Wait::ReloadInside]);
+        assert_eq!(moved(&[255, 1]), [Wait::Reload]);
+        let second = transaction(&[256, 0]).zeros(256).goes_through();
+        let wait = |answers| {
+            let mut case = second.clone();
+            case.answers.truncate(answers);
+            waits(&idle(case, &[TXE]))
+        };
+        assert_eq!(wait(2 + 255), [Wait::ReloadInside]);
+        assert_eq!(wait(2 + 255 + 1 + 2), [Wait::ByteOut]);
+        assert_eq!(wait(2 + 255 + 1 + 2 + 1), [Wait::Reload]);
     }
 
     #[test]

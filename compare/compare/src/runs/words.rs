@@ -5,6 +5,7 @@ use oracle::Asked;
 use crate::calls::build::{call, counted, transaction, READ};
 use crate::calls::case::Case;
 use crate::calls::chip::*;
+use crate::calls::pieces::sum;
 use crate::rattle::{self, saved};
 
 /// Status words: each flag alone, and flags together where the order in which they are looked at
@@ -77,8 +78,7 @@ fn set_up() -> Vec<Case> {
 
 /// A transaction with bytes for its lengths.
 pub fn operations(list: &[u32]) -> Case {
-    let length: u32 = list.iter().map(|word| word & 0xFFFF).sum();
-    transaction(list).bytes(&counted(length as usize))
+    transaction(list).bytes(&counted(sum(list)))
 }
 
 fn transactions() -> Vec<Case> {
@@ -116,7 +116,7 @@ fn targets() -> Vec<Case> {
     cases
 }
 
-/// Calls whose lengths lie around a block or an operation's most bytes, and long lists.
+/// Calls whose lengths lie around a block or a piece, and long lists.
 pub fn large() -> Vec<Case> {
     let manual = |number, length| call(number).bytes(&counted(length));
     let mut cases = vec![
@@ -124,6 +124,10 @@ pub fn large() -> Vec<Case> {
         operations(&[READ | 255]),
         operations(&[254, 2]),
         operations(&[READ | 254, 1, READ | 2]),
+        operations(&[256]),
+        operations(&[READ | 256]),
+        operations(&[1, READ | 256]).ten_bit(0x123),
+        operations(&[READ | 511, 257, 0]),
         operations(&[1; 64]),
         operations(&[[READ | 1, 1]; 32].concat()),
         manual(9, 300),
@@ -139,7 +143,10 @@ pub fn large() -> Vec<Case> {
 /// What is told of a call that is gone through.
 pub fn name(asked: &Asked, length: usize) -> String {
     match asked.call {
-        7 => format!("call 7 with {} operations", asked.operations.len()),
+        7 => {
+            let operations = asked.operations.len();
+            format!("call 7 with {operations} operations and {length} bytes")
+        }
         call => format!("call {call} with {length} bytes"),
     }
 }

@@ -5,6 +5,7 @@ use oracle::Asked;
 use super::check::{same, Input, Lent};
 use crate::calls::build::READ;
 use crate::calls::generate::{LISTED, UNLISTED};
+use crate::calls::pieces;
 use crate::random::Random;
 use crate::rattle::{self, saved, Advanced, Description, Next, NONE_REFUSED, REFUSED};
 
@@ -53,10 +54,15 @@ impl Wrong {
     }
 
     fn spoil_list(&mut self, random: &mut Random) {
-        match random.up_to(3) {
-            0 => self.buffer.push(0),
-            1 => self.asked.operations.push(1 | random.pick(&[0, READ])),
-            2 => self.asked.operations.push(1 << (17 + random.up_to(14))),
+        match random.up_to(31) {
+            // As long as an operation may be: with it the list has mostly too many bytes.
+            0 => {
+                self.asked.operations.push(0xFFFF);
+                self.buffer.resize(self.buffer.len() + 0xFFFF, 0);
+            }
+            1..=8 => self.buffer.push(0),
+            9..=16 => self.asked.operations.push(1 | random.pick(&[0, READ])),
+            17..=24 => self.asked.operations.push(1 << (17 + random.up_to(14))),
             _ => self.asked.operations.resize(65, 0),
         }
     }
@@ -65,6 +71,11 @@ impl Wrong {
     fn damage(&mut self, random: &mut Random) {
         let ended = rattle::word(&self.saved, saved::STEP) == 0;
         let far = random.pick(&[65_537, u32::MAX, 1 << 31]);
+        let sizes = self.sizes();
+        let piece = rattle::word(&self.saved, saved::PIECE) as usize;
+        let size = sizes.get(piece).copied().unwrap_or(0) as u32;
+        // A call without pieces counts as having an empty one.
+        let past = sizes.len().max(1) as u32;
         match random.up_to(6) {
             0 => self.put(saved::CALL, random.pick(&[0, 16, 30, u32::MAX])),
             1 => self.put(saved::OUTCOME, 10 + random.of_length(28)),
@@ -73,12 +84,32 @@ impl Wrong {
                 self.put(saved::OUTCOME, random.pick(&[1, 2, 3, 4, 5, 6, 9]));
                 self.put(saved::VALUE, 1 + random.of_length(28));
             }
-            4 if !ended => self.put(saved::PIECE, far),
-            5 if !ended => self.put(saved::BYTE, far),
+            4 if !ended => {
+                let number = random.pick(&[past, past + 1, past + 255, past + 256, far]);
+                self.put(saved::PIECE, number);
+            }
+            5 if !ended => self.put(saved::BYTE, random.pick(&[size + 2, size + 256, far])),
             _ => {
                 let lengths = [0, 1, 4, 28, 31, 33, 36, 64];
                 self.saved.resize(random.pick(&lengths), 0);
             }
+        }
+    }
+
+    /// The lengths of the call's pieces.
+    fn sizes(&self) -> Vec<usize> {
+        let length = self.buffer.len();
+        match self.asked.call {
+            7 => {
+                let pieces = pieces::of(&self.asked.operations).into_iter();
+                pieces.map(|piece| piece.size).collect()
+            }
+            9..=12 => vec![length],
+            25..=28 => {
+                let starts = (0..length).step_by(255);
+                starts.map(|start| (length - start).min(255)).collect()
+            }
+            _ => Vec::new(),
         }
     }
 

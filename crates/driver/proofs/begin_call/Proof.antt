@@ -12,6 +12,6 @@ unfolding beginOf
 begin-call-spec =
     tie.close
     (tie.spec
-    (λ c κs. accepted-fit (c .before .args .c) (c .before .args .d) (c .before .args .ops .now) (c .before .args .n) (c .before .pre))
+    (λ c κs. accepted-fit (c .before .args .c) (c .before .args .d) (c .before .args .ops .now) (c .before .args .n) (c .before .pre) .size)
     (λ c κs. search needs)
     (λ c. c .begin-at .ensures ∙ ap (λ (some : Bool). startAt (c .before .before .before .args .c) (beginAt (c .before .before .before .args .c) some)) (c .before .has-pieces .ensures)))

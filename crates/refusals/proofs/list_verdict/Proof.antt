@@ -15,6 +15,5 @@ list-verdict-spec =
     (λ c κs. search needs)
     (λ c. search needs)
     (λ c. search (needs, list-rows))
-    (λ c. search (needs, list-rows))
     (λ c κs. search needs)
     (λ c. search (needs, list-rows)))

@@ -9,11 +9,11 @@ use Rattle.refusals.proofs.survey_of.Statement.{statement}
 use Rattle.refusals.proofs.survey_of.Tie as tie
 
 abbrev Inv-loop : tie.InvT-loop
-Inv-loop ops strange₀ long₀ sum₀ i₀ i-end strange long sum i =
-    (i ≤ length ops) × (sum ≤ 65535 * i) × (onward strange long sum (drop i ops) ≡ surveyOf ops)
+Inv-loop ops strange₀ sum₀ i₀ i-end strange sum i =
+    (i ≤ length ops) × (sum ≤ 65535 * i) × (onward strange sum (drop i ops) ≡ surveyOf ops)
 
 abbrev μ-loop : tie.MeasureT-loop
-μ-loop ops strange₀ long₀ sum₀ i₀ i-end strange long sum i = length ops - i
+μ-loop ops strange₀ sum₀ i₀ i-end strange sum i = length ops - i
 
 pub survey-of-spec : {M : Type 1} → statement M
 survey-of-spec =
@@ -24,7 +24,6 @@ survey-of-spec =
     (λ c. search (needs, survey-turns))
     (λ c. search needs)
     (λ c. search needs)
-    (λ c κs. search needs)
     (λ c κs. search needs)
     (λ c κs. search needs)
     (λ c. search (needs, survey-turns))

@@ -3,7 +3,7 @@ use Rattle.boundary.proofs.call.advance.Statement.{statement}
 use Rattle.boundary.proofs.call.advance.Tie as tie
 use borrow.Author.Needs.{needs}
 use Prim.Native.Nat.{_/_}
-use mathlib.Core.Path.{_≡_, ap, _∙_}
+use mathlib.Core.Path.{ap, _∙_}
 use lib.ListN.{length}
 use Rattle.calls.specs.declared.SavedCall.{SavedCall}
 use Rattle.words.specs.Words.{wordsIn}

@@ -8,7 +8,6 @@ at-byte-spec =
     tie.close
     (tie.spec
     (λ c. search needs)
-    (λ c. search needs)
     (λ c κs. search needs)
     (λ c κs. search needs)
     (λ c. rw (c .before .is-byte .ensures, c .byte-there .ensures)))
