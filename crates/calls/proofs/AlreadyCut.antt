@@ -13,7 +13,7 @@ use Rattle.calls.specs.Calls.{Request, transaction}
 use Rattle.calls.specs.Pieces.{Piece, operation-read, pieceOf, pieceAt, blocksOf, cutOf, listPieces, piecesFor, piecesOf}
 use Rattle.calls.specs.Refusals.{lengthOf, total, accepts}
 use Rattle.calls.specs.Run.{byteOf, Uncut, uncutTurn, uncutOf}
-use Rattle.calls.specs.Steps.{accessOf, afterOf}
+use Rattle.calls.specs.Steps.{accessOf, afterOf, beginOf}
 use Rattle.calls.specs.declared.Access.{Access}
 use Rattle.calls.specs.declared.Access.the-variants.{Read, Take, Write, Nothing}
 use Rattle.calls.specs.declared.Refusal.the-variants.{Address, List as BadList, Buffer, NoSuchCall, SavedCall as BadSavedCall}
@@ -188,6 +188,10 @@ module _ (q : Request) (x : T (transaction (q .call))) where
   same-run (suc k) s b l =
       rw (← same-access s b) (same-turn (uncutOf q k) (uncutOf (cutRequest q) k) (same-run k) s b l (accessOf q b s))
 
+  same-begin : beginOf q ≡ beginOf (cutRequest q)
+  unfolding beginOf
+  same-begin = rw same-pieces
+
   same-row : (s : SavedCall) → accepts q s ≡ accepts (cutRequest q) s
   unfolding accepts
   same-row s = rw same-pieces
@@ -202,6 +206,7 @@ module _ (q : Request) (x : T (transaction (q .call))) where
         pieces = are-list ∙ list-cut (q .operations);
         short = λ i. rw are-list (list-short (q .operations) i);
         sum = sum-cut (q .operations);
+        begin = same-begin;
         run = same-run;
         row-13 = same-row;
       }

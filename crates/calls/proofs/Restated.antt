@@ -319,6 +319,9 @@ module _ (c : Call) (d : Description) (ops : List ℕ) (n : ℕ) (t : T (isTrans
   pub cut-makes-up-the-buffer : total ops ≡ n → total (alreadyCut ops) ≡ n
   cut-makes-up-the-buffer e = cut .sum ∙ e
 
+  pub begin-as-cut : beginOf (requestOf c d ops n) ≡ beginOf (requestOf c d (alreadyCut ops) n)
+  begin-as-cut = cut .begin
+
   pub run-as-cut : (k : ℕ) (s : SavedCall) (b l : List ℕ) →
       uncutOf (requestOf c d ops n) k s b l ≡ uncutOf (requestOf c d (alreadyCut ops) n) k s b l
   run-as-cut = cut .run

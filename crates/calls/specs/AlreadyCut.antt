@@ -13,6 +13,7 @@ use Rattle.calls.specs.Outcomes.{refusalNumber}
 use Rattle.calls.specs.Pieces.{Piece, operation-read, pieceOf, pieceAt, cutOf, piecesOf}
 use Rattle.calls.specs.Refusals.{lengthOf, total, requestOf, accepts}
 use Rattle.calls.specs.Run.{uncutOf}
+use Rattle.calls.specs.Steps.{beginOf}
 use Rattle.calls.specs.declared.Refusal.{Refusal}
 use Rattle.calls.specs.declared.SavedCall.{SavedCall}
 
@@ -53,11 +54,12 @@ pub record Cuts (o : ℕ) : Type 0 where
   pub at-least : lengthOf o ≢ 0 → (i : ℕ) → i < length (cutOf (pieceOf o)) → 1 ≤ pieceAt (cutOf (pieceOf o)) i .size
 
 -- of a transaction: its pieces are document 01's for the cut list, which document 01 takes (no operation is over 255 bytes,
--- the sum is the same); so each run, from any saved call, is the run of the cut list, and row 13 is the same
+-- the sum is the same); so begin, each run, from any saved call, and row 13 are those of the cut list
 pub record AsCut (q : Request) : Type 0 where
   pub pieces : piecesOf q ≡ map pieceOf (alreadyCut (q .operations))
   pub short : (i : ℕ) → pieceAt (piecesOf q) i .size ≤ 255
   pub sum : total (alreadyCut (q .operations)) ≡ total (q .operations)
+  pub begin : beginOf q ≡ beginOf (cutRequest q)
   pub run : (k : ℕ) (s : SavedCall) (b l : List ℕ) → uncutOf q k s b l ≡ uncutOf (cutRequest q) k s b l
   pub row-13 : (s : SavedCall) → accepts q s ≡ accepts (cutRequest q) s
 
