@@ -217,24 +217,25 @@ static void stand(uint32_t length, int reads, uint32_t count, uint32_t piece) {
     huskerivory_put_word(begun + PIECE, piece);
 }
 
+/* An advance over the 200 accesses of a hundred bytes, with so many answers from the given one on. */
+static void tell_hundred(const char *name, uint32_t from, uint32_t count) {
+    lent = answers + 4 * from;
+    lent_len = 4 * count;
+    log_len = 200 * HUSKERIVORY_LOG_ENTRY;
+    tell(name, instructions(advance, restore, TIMES));
+    expect(name, HUSKERIVORY_REPORT_FULL);
+}
+
 /* Advances in one piece of an operation: one answer each, at its third byte; a hundred bytes in one; and the one that goes on to the
  * next piece, if there is one. */
 static void in_piece(uint32_t length, uint32_t piece) {
     stand(length, 0, 4, piece);
     tell_advance(named("idle", length, piece), ISR_IDLE, HUSKERIVORY_REPORT_WAITING);
     tell_advance(named("out", length, piece), ISR_BYTE_OUT, HUSKERIVORY_REPORT_WAITING);
-    lent = answers + 4 * 4;
-    lent_len = 4 * 100;
-    log_len = 200 * HUSKERIVORY_LOG_ENTRY;
-    tell(named("hundred-out", length, piece), instructions(advance, restore, TIMES));
-    expect("a hundred bytes out", HUSKERIVORY_REPORT_FULL);
+    tell_hundred(named("hundred-out", length, piece), 4, 100);
     stand(length, 1, 6, piece);
     tell_advance(named("in", length, piece), ISR_BYTE_IN, HUSKERIVORY_REPORT_WAITING);
-    lent = answers + 4 * 6;
-    lent_len = 4 * 200;
-    log_len = 200 * HUSKERIVORY_LOG_ENTRY;
-    tell(named("hundred-in", length, piece), instructions(advance, restore, TIMES));
-    expect("a hundred bytes in", HUSKERIVORY_REPORT_FULL);
+    tell_hundred(named("hundred-in", length, piece), 6, 200);
     stand(length, 1, 7, piece);
     tell_advance(named("in-byte", length, piece), 0xAB, HUSKERIVORY_REPORT_WAITING);
     if (BYTES * (piece + 1) < length) {

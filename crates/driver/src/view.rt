@@ -218,7 +218,7 @@ fn transfer_view(c: Call, n: u32, i: u32) -> View
     }
 }
 
-// Either kind of call.
+// The call, of either kind, has a piece at all.
 pub fn has_pieces(c: Call, ops: &[u32], n: u32) -> bool
     requires { ⌜ n ≤ 65535 ⌝ }
     ensures { λ r. ⌜ r ≡ ltb 0 (length (piecesFor c (now (ops .entry)) n)) ⌝ }
