@@ -208,6 +208,7 @@ module _ (q : Request) (x : T (transaction (q .call))) where
         sum = sum-cut (q .operations);
         begin = same-begin;
         run = same-run;
+        as-before = λ h. are-list ∙ short-list (q .operations) h;
         row-13 = same-row;
       }
 

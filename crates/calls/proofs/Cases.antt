@@ -144,7 +144,7 @@ transactions =
 -- Document 02, R-1: the beginning of each run and, from the last byte of a piece on, its end.
 abbrev long : List Row
 long =
-    -- 256 bytes, 521 accesses: 255 with RELOAD, then one with AUTOEND and no START, SADD or RD_WRN; TCR ends the first piece and TC does not
+    -- 256 bytes: 255 with RELOAD, then one with AUTOEND and no START, SADD or RD_WRN; TCR ends the first piece and TC does not
     starts (plain 7 0x50) (256 ∷ []) (replicate 256 0) (w 0x04 0x01FF20A0 ∷ r 0x18 1 ∷ r 0x04 0 ∷ r 0x18 2 ∷ w 0x28 0 ∷ []) (replicate 256 0)
     ∷ resumed (savedAt (freshAt 7 Wait) Wait 0 254 0 (Done 0) 511) (plain 7 0x50) (256 ∷ []) (replicate 256 0) (Done 0)
     (r 0x18 2 ∷ w 0x28 0 ∷ r 0x18 0x40 ∷ r 0x18 0x80 ∷ w 0x04 0x02010000 ∷ r 0x18 1 ∷ r 0x04 0 ∷ r 0x18 2 ∷ w 0x28 0 ∷ r 0x18 0x20 ∷ w 0x1C 0x20 ∷ [])

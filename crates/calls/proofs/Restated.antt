@@ -1,6 +1,6 @@
 -- What demand 3 and document 01's section "A call, from its entry" say of a begin and the advances after it, once more, fact by fact, in the
 -- words of Plain. Each theorem is read off `demand-3`: a statement that loses a fact, and its proof with it, fails here. Assumes nothing.
-use Prim.Native.Nat.{ℕ, _+_, _-_, _*_, _/_, _≤_, _<_, min}
+use Prim.Native.Nat.{ℕ, zero, suc, _+_, _-_, _*_, _/_, _≤_, _<_, min}
 use native.Mathlib.Omega.{arith}
 use mathlib.Core.Logic.{_≢_}
 use mathlib.Core.Path.{_≡_, refl, sym, ap, ap₂, _∙_, subst}
@@ -315,6 +315,14 @@ module _ (c : Call) (d : Description) (ops : List ℕ) (n : ℕ) (t : T (isTrans
 
   pub pieces-short : (i : ℕ) → pieceAt (piecesFor c ops n) i .size ≤ 255
   pieces-short = cut .short
+
+  pub short-as-before : ((i : ℕ) → lengthOf (getD ops i 0) ≤ 255) → piecesFor c ops n ≡ map pieceOf ops
+  short-as-before h = cut .as-before (go ops h)
+    where
+      go : (os : List ℕ) → ((i : ℕ) → lengthOf (getD os i 0) ≤ 255) → (i : ℕ) → pieceAt (map pieceOf os) i .size ≤ 255
+      go [] h i = omega arith
+      go (o ∷ os) h zero = h 0
+      go (o ∷ os) h (suc i) = go os (λ j. h (suc j)) i
 
   pub cut-makes-up-the-buffer : total ops ≡ n → total (alreadyCut ops) ≡ n
   cut-makes-up-the-buffer e = cut .sum ∙ e

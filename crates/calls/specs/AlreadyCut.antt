@@ -54,13 +54,15 @@ pub record Cuts (o : ℕ) : Type 0 where
   pub at-least : lengthOf o ≢ 0 → (i : ℕ) → i < length (cutOf (pieceOf o)) → 1 ≤ pieceAt (cutOf (pieceOf o)) i .size
 
 -- of a transaction: its pieces are document 01's for the cut list, which document 01 takes (no operation is over 255 bytes,
--- the sum is the same); so begin, each run, from any saved call, and row 13 are those of the cut list
+-- the sum is the same); so begin, each run, from any saved call, and row 13 are those of the cut list; a list that document
+-- 01 takes as it is has the pieces that it had
 pub record AsCut (q : Request) : Type 0 where
   pub pieces : piecesOf q ≡ map pieceOf (alreadyCut (q .operations))
   pub short : (i : ℕ) → pieceAt (piecesOf q) i .size ≤ 255
   pub sum : total (alreadyCut (q .operations)) ≡ total (q .operations)
   pub begin : beginOf q ≡ beginOf (cutRequest q)
   pub run : (k : ℕ) (s : SavedCall) (b l : List ℕ) → uncutOf q k s b l ≡ uncutOf (cutRequest q) k s b l
+  pub as-before : ((i : ℕ) → pieceAt (map pieceOf (q .operations)) i .size ≤ 255) → piecesOf q ≡ map pieceOf (q .operations)
   pub row-13 : (s : SavedCall) → accepts q s ≡ accepts (cutRequest q) s
 
 -- and no refusal has the number 9
