@@ -26,7 +26,7 @@ fn put_operation(p: Cursor, o: u32, bytes: &[u32], out: &mut [u8]) -> Cursor
 {
     let size = operation::length(o) as usize;
     if operation::is_read(o) {
-        return window::put_zeros(p, size, out);
+        return window::put_repeated(p, 0, size, out);
     }
     put_bytes(p, first(bytes, size), out)
 }
@@ -60,7 +60,7 @@ fn put_buffer(p: Cursor, n: u32, a: u32, head: &[u32], out: &mut [u8]) -> Cursor
         return put_operations(p, head::list(head), after_list(head), out);
     }
     if (n == 9) | (n == 11) {
-        return window::put_zeros(p, a as usize, out);
+        return window::put_repeated(p, 0, a as usize, out);
     }
     if (n == 10) | (n == 12) {
         return put_bytes(p, head, out);

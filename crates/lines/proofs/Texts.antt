@@ -1,7 +1,7 @@
--- Texts put one after the other, and the loops over a log and a buffer. Assumes nothing.
+-- The loops over a log and a buffer. Assumes nothing.
 use Prim.Native.Nat.{ℕ, _-_, _≤_, _<_}
 use native.Mathlib.Omega.{arith}
-use mathlib.Core.Path.{_≡_, refl, sym, ap, _∙_}
+use mathlib.Core.Path.{_≡_, refl}
 use mathlib.Core.List.{List, [], _∷_, _++_}
 use lib.ListN.{length, getD, take, drop}
 use lib.Seq.{take-all}
@@ -12,14 +12,6 @@ use Rattle.window.proofs.Laid.{emit-append, emit-none}
 use Rattle.lines.specs.Lines.{accessLine, accessLines, bytesText}
 
 pub ruleset tests = (lt-ltb, le-ltb, eq-eqb, ne-eqb)
-
--- the text of what was found to be y
-pub found : {A : Type 0} (text : A → List ℕ) (x y : A) (L M : Laid) → x ≡ y → M ≡ emitOf (text y) L → M ≡ emitOf (text x) L
-found {A = A} text x y L M e m = m ∙ ap (λ (z : A). emitOf (text z) L) (sym e)
-
--- one text more
-pub then : (t u : List ℕ) (K L M : Laid) → L ≡ emitOf t K → M ≡ emitOf u L → M ≡ emitOf (t ++ u) K
-then t u K L M e f = f ∙ ap (emitOf u) e ∙ sym (emit-append t u K)
 
 -- ---- the entries of a log, those of `rest` still to be put where the text stands
 no-entry : (ws : List ℕ) → length ws ≤ 1 → accessLines ws ≡ []

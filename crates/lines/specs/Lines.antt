@@ -1,8 +1,5 @@
 -- The lines that the bench prints (document 01, "Bench"), as lists of ASCII codes. Assumes nothing.
 use Prim.Native.Nat.{ℕ, _%_}
-use Prim.Native.Char.{code}
-use Prim.Native.String.{String}
-use Prim.Native.String as text
 use mathlib.Core.Bool.{cond}
 use mathlib.Core.List.{List, [], _∷_, _++_}
 use lib.Dec.{eqb, ltb}
@@ -13,10 +10,7 @@ use Rattle.calls.specs.declared.Outcome.the-variants.{Done, Bus, Arbitration, N
 use Rattle.calls.specs.declared.Report.{Report}
 use Rattle.calls.specs.declared.Report.the-variants.{Over, Full, Waiting, Refused}
 use Rattle.numerals.specs.Numbers.{hexOf, decimalOf}
-
-abbrev pub codes : String → List ℕ
-codes text.[] = []
-codes (text._∷_ c s) = code c ∷ codes s
+use Rattle.window.specs.Codes.{codes}
 
 abbrev pub space : List ℕ
 space = codes " "

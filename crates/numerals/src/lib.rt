@@ -90,6 +90,15 @@ pub fn digits(n: u64) -> [u8; 20]
     text
 }
 
+// The last six decimal digits of `n`, zeros in front.
+pub fn last_six(n: u64) -> [u8; 6]
+    ensures { λ r. ⌜ r ≡ spelledOf 10 6 n ⌝ }
+{
+    let mut text = [0u8; 6];
+    spell(n, 10, &mut text);
+    text
+}
+
 // Fills `text` with the last digits of `n` in a base.
 fn spell(n: u64, base: u64, text: &mut [u8])
     requires { ⌜ (1 ≤ base) × (base ≤ 16) ⌝ }

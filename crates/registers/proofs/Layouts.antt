@@ -2,31 +2,17 @@
 -- leaves every other (`keeps` of the crate `fields`). Assumes nothing.
 use lib.Dec.{T}
 use Rattle.fields.specs.Field.{layout}
-use Rattle.registers.specs.Places.{CR1, CR2, OAR1, OAR2, TIMINGR, ISR, ICR, RXDR, TXDR}
+use Rattle.registers.specs.Fields.{placesOf}
+use Rattle.registers.specs.declared.Register.{Register}
+use Rattle.registers.specs.declared.Register.the-variants.{Cr1, Cr2, Oar1, Oar2, Timingr, Isr, Icr, Rxdr, Txdr}
 
-pub cr1-layout : T (layout CR1)
-cr1-layout = tt
-
-pub cr2-layout : T (layout CR2)
-cr2-layout = tt
-
-pub oar1-layout : T (layout OAR1)
-oar1-layout = tt
-
-pub oar2-layout : T (layout OAR2)
-oar2-layout = tt
-
-pub timingr-layout : T (layout TIMINGR)
-timingr-layout = tt
-
-pub isr-layout : T (layout ISR)
-isr-layout = tt
-
-pub icr-layout : T (layout ICR)
-icr-layout = tt
-
-pub rxdr-layout : T (layout RXDR)
-rxdr-layout = tt
-
-pub txdr-layout : T (layout TXDR)
-txdr-layout = tt
+pub layouts : (r : Register) → T (layout (placesOf r))
+layouts Cr1 = tt
+layouts Cr2 = tt
+layouts Oar1 = tt
+layouts Oar2 = tt
+layouts Timingr = tt
+layouts Isr = tt
+layouts Icr = tt
+layouts Rxdr = tt
+layouts Txdr = tt

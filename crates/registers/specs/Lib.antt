@@ -1,3 +1,4 @@
 pub mod Places
 pub mod Map
+pub mod Fields
 pub mod Addresses

@@ -1,6 +1,5 @@
 -- The fields of the nine I2C registers, each named once, by place: its lowest bit, and its width where that is not 1
 -- (RM0492, I2C registers). Bits that are not listed belong to no field. Assumes nothing.
-use mathlib.Core.List.{List, [], _∷_}
 use Rattle.fields.specs.Field.{Place, place, bit}
 
 -- CR1, control register 1
@@ -230,40 +229,3 @@ RXDR-RXDATA = place 0 8
 -- TXDR, transmit data register
 abbrev pub TXDR-TXDATA : Place
 TXDR-TXDATA = place 0 8
-
--- Each register whole, from the top bit down.
-abbrev pub CR1 : List Place
-CR1 =
-    CR1-STOPFACLR ∷ CR1-ADDRACLR ∷ CR1-FMP ∷ CR1-PECEN ∷ CR1-ALERTEN ∷ CR1-SMBDEN ∷ CR1-SMBHEN ∷ CR1-GCEN ∷ CR1-WUPEN ∷ CR1-NOSTRETCH ∷ CR1-SBC ∷ CR1-RXDMAEN ∷ CR1-TXDMAEN ∷ CR1-ANFOFF ∷ CR1-DNF ∷ CR1-ERRIE ∷ CR1-TCIE ∷ CR1-STOPIE ∷ CR1-NACKIE ∷ CR1-ADDRIE ∷ CR1-RXIE ∷ CR1-TXIE ∷ CR1-PE ∷ []
-
-abbrev pub CR2 : List Place
-CR2 =
-    CR2-PECBYTE ∷ CR2-AUTOEND ∷ CR2-RELOAD ∷ CR2-NBYTES ∷ CR2-NACK ∷ CR2-STOP ∷ CR2-START ∷ CR2-HEAD10R ∷ CR2-ADD10 ∷ CR2-RD-WRN ∷ CR2-SADD ∷ []
-
-abbrev pub OAR1 : List Place
-OAR1 =
-    OAR1-OA1EN ∷ OAR1-OA1MODE ∷ OAR1-OA1 ∷ []
-
-abbrev pub OAR2 : List Place
-OAR2 =
-    OAR2-OA2EN ∷ OAR2-OA2MSK ∷ OAR2-OA2 ∷ []
-
-abbrev pub TIMINGR : List Place
-TIMINGR =
-    TIMINGR-PRESC ∷ TIMINGR-SCLDEL ∷ TIMINGR-SDADEL ∷ TIMINGR-SCLH ∷ TIMINGR-SCLL ∷ []
-
-abbrev pub ISR : List Place
-ISR =
-    ISR-ADDCODE ∷ ISR-DIR ∷ ISR-BUSY ∷ ISR-ALERT ∷ ISR-TIMEOUT ∷ ISR-PECERR ∷ ISR-OVR ∷ ISR-ARLO ∷ ISR-BERR ∷ ISR-TCR ∷ ISR-TC ∷ ISR-STOPF ∷ ISR-NACKF ∷ ISR-ADDR ∷ ISR-RXNE ∷ ISR-TXIS ∷ ISR-TXE ∷ []
-
-abbrev pub ICR : List Place
-ICR =
-    ICR-ALERTCF ∷ ICR-TIMOUTCF ∷ ICR-PECCF ∷ ICR-OVRCF ∷ ICR-ARLOCF ∷ ICR-BERRCF ∷ ICR-STOPCF ∷ ICR-NACKCF ∷ ICR-ADDRCF ∷ []
-
-abbrev pub RXDR : List Place
-RXDR =
-    RXDR-RXDATA ∷ []
-
-abbrev pub TXDR : List Place
-TXDR =
-    TXDR-TXDATA ∷ []

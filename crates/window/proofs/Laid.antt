@@ -31,6 +31,14 @@ pub emit-first : (b : ℕ) (t : List ℕ) (L : Laid) → emitOf (b ∷ t) L ≡ 
 unfolding emitOf
 emit-first b t L = refl
 
+-- one text more
+pub then : (t u : List ℕ) (K L M : Laid) → L ≡ emitOf t K → M ≡ emitOf u L → M ≡ emitOf (t ++ u) K
+then t u K L M e f = f ∙ ap (emitOf u) e ∙ sym (emit-append t u K)
+
+-- the text of what was found to be y
+pub found : {A : Type 0} (text : A → List ℕ) (x y : A) (L M : Laid) → x ≡ y → M ≡ emitOf (text y) L → M ≡ emitOf (text x) L
+found {A = A} text x y L M e m = m ∙ ap (λ (z : A). emitOf (text z) L) (sym e)
+
 -- ---- one byte
 module _ (b skip at : ℕ) (bytes : List ℕ) where
   abbrev here : Laid
@@ -75,18 +83,18 @@ module _ (t : List ℕ) (L : Laid) (i : ℕ) (M : Laid) (done : emitOf (drop i t
   unfolding emitOf
   next-put h b N e f = rw (f, e, add-one) (rw (drop-cons t i 0 h) at done)
 
--- ---- zeros, of which n are left
-module _ (n : ℕ) (L : Laid) (k : ℕ) (M : Laid) (done : emitOf (replicate n 0) M ≡ emitOf (replicate k 0) L) where
-  pub zeros-put : n ≤ 0 → M ≡ emitOf (replicate k 0) L
+-- ---- a byte b repeated, n times still to come
+module _ (b n : ℕ) (L : Laid) (k : ℕ) (M : Laid) (done : emitOf (replicate n b) M ≡ emitOf (replicate k b) L) where
+  pub all-repeated : n ≤ 0 → M ≡ emitOf (replicate k b) L
   unfolding emitOf
-  zeros-put h = (let e : n ≡ 0 = omega arith in rw e at done)
+  all-repeated h = (let e : n ≡ 0 = omega arith in rw e at done)
 
-  pub zeros-full : (r : Bool) → r ≡ full M → r ≡ true → M ≡ emitOf (replicate k 0) L
-  zeros-full r e h = sym (full-emit (replicate n 0) M (sym e ∙ h)) ∙ done
+  pub rest-left-out : (r : Bool) → r ≡ full M → r ≡ true → M ≡ emitOf (replicate k b) L
+  rest-left-out r e h = sym (full-emit (replicate n b) M (sym e ∙ h)) ∙ done
 
-  pub next-zero : 0 < n → (N : Laid) → N ≡ putByte 0 M → emitOf (replicate (n - 1) 0) N ≡ emitOf (replicate k 0) L
+  pub once-more : 0 < n → (N : Laid) → N ≡ putByte b M → emitOf (replicate (n - 1) b) N ≡ emitOf (replicate k b) L
   unfolding emitOf
-  next-zero h N f = rw f (let e : n ≡ suc (n - 1) = omega arith in rw e at done)
+  once-more h N f = rw f (let e : n ≡ suc (n - 1) = omega arith in rw e at done)
 
 -- ---- what the window shows in the end
 shows : (t : List ℕ) (at : ℕ) (bytes : List ℕ) (n : ℕ) → at + n ≡ length bytes →

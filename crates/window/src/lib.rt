@@ -51,9 +51,9 @@ fn is_full(p: Cursor, out: &[u8]) -> bool
     (p.skip == 0) & (out.len() <= p.at)
 }
 
-// So many zeros; those that a full window has no room for cost nothing.
-pub fn put_zeros(p: Cursor, n: usize, out: &mut [u8]) -> Cursor
-    ensures { λ r. ⌜ laid r (now (out .exit)) ≡ emitOf (replicate n 0) (laid p (now (out .entry))) ⌝ }
+// A byte so many times; those that a full window has no room for cost nothing.
+pub fn put_repeated(p: Cursor, b: u8, n: usize, out: &mut [u8]) -> Cursor
+    ensures { λ r. ⌜ laid r (now (out .exit)) ≡ emitOf (replicate n b) (laid p (now (out .entry))) ⌝ }
 {
     let mut q = p;
     let mut left = n;
@@ -61,7 +61,7 @@ pub fn put_zeros(p: Cursor, n: usize, out: &mut [u8]) -> Cursor
         if is_full(q, out) {
             return q;
         }
-        q = put(q, 0, out);
+        q = put(q, b, out);
         left -= 1;
     }
     q

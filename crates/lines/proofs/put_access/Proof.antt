@@ -1,6 +1,6 @@
 -- `lines::put_access` meets its contract. Assumes nothing.
 use borrow.Author.Needs.{needs}
-use Rattle.lines.proofs.Texts.{then}
+use Rattle.window.proofs.Laid.{then}
 use Rattle.lines.specs.Lines.{accessLine}
 use Rattle.lines.proofs.put_access.Statement.{statement}
 use Rattle.lines.proofs.put_access.Tie as tie

@@ -1,6 +1,6 @@
 -- `lines::put_full_buffer` meets its contract. Assumes nothing.
 use borrow.Author.Needs.{needs}
-use Rattle.lines.proofs.Texts.{then}
+use Rattle.window.proofs.Laid.{then}
 use Rattle.lines.proofs.put_full_buffer.Statement.{statement}
 use Rattle.lines.proofs.put_full_buffer.Tie as tie
 

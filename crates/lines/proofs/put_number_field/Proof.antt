@@ -1,6 +1,6 @@
 -- `lines::put_number_field` meets its contract. Assumes nothing.
 use borrow.Author.Needs.{needs}
-use Rattle.lines.proofs.Texts.{then}
+use Rattle.window.proofs.Laid.{then}
 use Rattle.lines.proofs.put_number_field.Statement.{statement}
 use Rattle.lines.proofs.put_number_field.Tie as tie
 

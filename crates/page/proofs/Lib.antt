@@ -1,0 +1,15 @@
+pub mod Texts
+pub mod Sizes
+pub mod Lines
+pub mod Sound
+pub mod Spelled
+pub mod Same
+pub mod Split
+pub mod Decimal
+pub mod Worth
+pub mod Back
+pub mod Cases
+pub mod Promised
+pub mod Putting
+pub mod Entries
+pub mod Logs
