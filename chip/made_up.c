@@ -48,7 +48,7 @@ static void add_number(uint64_t number) {
 
 /* ---- What is lent: room for any alignment, and bytes around it that have to stay as they are */
 
-enum { OPERATIONS = 70, BYTES = 700, ANSWERS = 80, PLACES = 90, AROUND = 16 };
+enum { OPERATIONS = 70, BYTES = 700, ANSWERS = 80, PLACES = 90, AROUND = 16, LINES = 12 };
 
 typedef struct {
     uint8_t operations[4 * OPERATIONS + AROUND], buffer[BYTES + AROUND], saved[HUSKERIVORY_SAVED_CALL + AROUND];
@@ -56,6 +56,12 @@ typedef struct {
 } memory;
 
 static memory all;
+
+/* Not among the others, whose bytes are all drawn and added up for every call. */
+static uint8_t paper[LINES * HUSKERIVORY_PAGE_LINE + AROUND];
+static uint32_t written;  /* entries that the last advance wrote */
+static unsigned pages[2]; /* laid out, and refused */
+
 static huskerivory_description description;
 static uint8_t *operations, *buffer, *saved, *answers, *entries;
 static uint32_t operations_len, buffer_len, saved_len;
@@ -147,8 +153,54 @@ static int advance(void) {
     add_number(a.used);
     add_number(a.written);
     add_bytes((const uint8_t *)&all, sizeof all);
+    written = (uint32_t)a.written;
     reports[report < 13 ? report : 0]++;
     return report == HUSKERIVORY_REPORT_WAITING || report == HUSKERIVORY_REPORT_FULL;
+}
+
+/* Entries of any register, now and then of none. */
+static void make_entries_up(uint32_t count) {
+    static const uint32_t offsets[] = {0x00, 0x04, 0x08, 0x0C, 0x10, 0x18, 0x1C, 0x24, 0x28};
+    for (uint32_t i = 0; i < count; i++) {
+        uint32_t code = offsets[below(sizeof offsets / sizeof offsets[0])], value = below(UINT32_MAX);
+        if (once_in(2)) {
+            code |= HUSKERIVORY_LOG_WRITE;
+        }
+        if (once_in(30)) {
+            code ^= 1U << below(32);
+        }
+        if (once_in(3)) {
+            value &= below(UINT32_MAX);
+        }
+        huskerivory_put_word(entries + i * HUSKERIVORY_LOG_ENTRY, code);
+        huskerivory_put_word(entries + i * HUSKERIVORY_LOG_ENTRY + 4, value);
+    }
+}
+
+/* The page of what the last advance wrote, or of entries that are made up, on paper that is mostly long enough. What it holds of earlier
+ * pages has to stay after this one. */
+static void lay_out(void) {
+    uint32_t most = once_in(3) ? LINES : 4, count = below(most), room = LINES * HUSKERIVORY_PAGE_LINE;
+    uint8_t *page = paper + below(8);
+    uint64_t length;
+    if (once_in(3)) {
+        count = written;
+    } else {
+        make_entries_up(count);
+    }
+    uint32_t log_len = HUSKERIVORY_LOG_ENTRY * count;
+    if (once_in(10)) {
+        log_len += below(8);
+    }
+    if (once_in(4)) {
+        room = below(room);
+    }
+    uint32_t number = huskerivory_page(entries, log_len, page, room, &length);
+    add_number(number);
+    add_number(length);
+    add_bytes(paper, sizeof paper);
+    add_bytes(entries, log_len);
+    pages[number != 0]++;
 }
 
 static void time_and_pack(void) {
@@ -180,6 +232,7 @@ static void make_one_up(void) {
     move_on();
     for (int i = 0; i < ADVANCES && advance(); i++) {
     }
+    lay_out();
     time_and_pack();
 }
 
@@ -193,5 +246,6 @@ int main(void) {
     for (int i = 0; i < 13; i++) {
         printf("report %d: %u\n", i, reports[i]);
     }
+    printf("pages: %u laid out, %u refused\n", pages[0], pages[1]);
     return 0;
 }

@@ -116,6 +116,32 @@ static void abi(void) {
     report = huskerivory_abi(sizes);
 }
 
+/* A log, and paper for its page. */
+static uint8_t paper[9 * HUSKERIVORY_PAGE_LINE];
+static uint64_t page_len;
+
+static void page(void) {
+    note_depth();
+    report = huskerivory_page(entries, log_len, paper, sizeof paper, &page_len);
+}
+
+/* The log of document 01's run, whose entries take a line each. */
+static void log_worked(void) {
+    static const uint32_t words[18] = {0x104, 0x020220A0, 0x18,  1, 0x04, 0x020200A0, 0x18, 3,     0x128,
+                                       0x12,  0x18,       3, 0x128, 0x34, 0x18,       0x21, 0x11C, 0x20};
+    log_len = sizeof words;
+    for (uint32_t i = 0; i < sizeof words / sizeof words[0]; i++) {
+        huskerivory_put_word(entries + 4 * i, words[i]);
+    }
+}
+
+/* One entry, which takes the most lines. */
+static void log_most(void) {
+    log_len = HUSKERIVORY_LOG_ENTRY;
+    huskerivory_put_word(entries, 0x1C);
+    huskerivory_put_word(entries + 4, UINT32_MAX);
+}
+
 /* ---- Instructions */
 
 #define SYST_CSR (*(volatile uint32_t *)0xE000E010)
@@ -196,6 +222,14 @@ static void uncut(const char *name, int reads) {
     uint32_t whole = instructions(advance, restore, 20);
     expect(name, HUSKERIVORY_REPORT_DONE);
     tell(name, 10 * whole / (uint32_t)last.written);
+}
+
+/* A page of so many bytes. */
+static void tell_page(const char *name, uint32_t bytes) {
+    tell(name, instructions(page, nothing, 100));
+    if (report != 0 || page_len != bytes) {
+        printf("%s said %u and %u bytes\n", name, (unsigned)report, (unsigned)page_len);
+    }
 }
 
 /* ---- The same at 255 bytes and at 65,535: nothing that an advance does goes by the length of an operation */
@@ -286,6 +320,10 @@ static void tell_instructions(void) {
     tell("pack", instructions(pack, nothing, TIMES));
     tell("unpack", instructions(unpack, nothing, TIMES));
     tell("abi", instructions(abi, nothing, TIMES));
+    log_worked();
+    tell_page("page-worked", 9 * HUSKERIVORY_PAGE_LINE);
+    log_most();
+    tell_page("page-most", HUSKERIVORY_PAGE_ENTRY);
     tell_pieces();
 }
 
@@ -329,6 +367,8 @@ static void tell_stacks(void) {
     tell_stack("stack-pack", pack);
     tell_stack("stack-unpack", unpack);
     tell_stack("stack-abi", abi);
+    log_most();
+    tell_stack("stack-page", page);
 }
 
 int main(void) {

@@ -25,8 +25,8 @@
  * what is only read. Nothing is kept: after the return all of it is the caller's again.
  *
  * Words. Operations, answers, log entries and the saved call are 32-bit words in little-endian bytes, without alignment.
- * Bytes after the last whole word, or after the last whole log entry, are neither read nor written. The numbers of a struct are
- * the machine's own.
+ * Bytes after the last whole word, or after the last whole log entry, are neither read nor written; only huskerivory_page refuses a
+ * log that has such bytes. The numbers of a struct are the machine's own.
  *
  * The library is, for x86-64, target/staticlib/libboundary.a, which `rt staticlib boundary` writes; for the Cortex-M33,
  * target/chip/libhuskerivory-thumbv8m.a, and the same name with -hard for callers that pass floating-point numbers in
@@ -153,8 +153,8 @@ typedef struct {
 /* ---- Refusals */
 
 /* The first of these that fits is given, in the order in which they stand. 1 to 6 come from huskerivory_timing, 7 from
- * huskerivory_pack, the others from begin, next and advance; 13 from next and advance, and for a wrong `saved_len`. 9 is out of
- * use: it was an operation over 255 bytes. */
+ * huskerivory_pack, 15 from huskerivory_page, the others from begin, next and advance; 13 from next and advance, and for a wrong
+ * `saved_len`. 9 is out of use: it was an operation over 255 bytes. 14 is a bench file, which does not cross here. */
 enum {
     HUSKERIVORY_REFUSAL_NO_SPEED = 1,      /* no speed: the bus frequency is 0 */
     HUSKERIVORY_REFUSAL_CLOCK_OVER = 2,    /* clock over: the kernel clock is above 250 MHz */
@@ -167,7 +167,8 @@ enum {
     HUSKERIVORY_REFUSAL_ADDRESS = 8,       /* address: too wide for its seven or ten bits, or a mask above 6 */
     HUSKERIVORY_REFUSAL_LIST = 10,         /* list: over 64 operations, bits 17 to 31 set, or lengths that are not the buffer's */
     HUSKERIVORY_REFUSAL_BUFFER = 11,       /* buffer: none for an AutoAck transfer (9 to 12), or over 65,535 bytes */
-    HUSKERIVORY_REFUSAL_SAVED_CALL = 13    /* saved call: its bytes are no saved call, or none that this call can come to */
+    HUSKERIVORY_REFUSAL_SAVED_CALL = 13,   /* saved call: its bytes are no saved call, or none that this call can come to */
+    HUSKERIVORY_REFUSAL_PAGE = 15          /* page: a part of an entry, a code of no register, or a page longer than its room */
 };
 
 /* ---- The saved call */
@@ -258,6 +259,45 @@ uint32_t huskerivory_advance(const huskerivory_description *description,
                              const uint8_t *answers, uint64_t answers_len,
                              uint8_t *log, uint64_t log_len,
                              huskerivory_advanced *answer);
+
+/* ---- Page */
+
+#define HUSKERIVORY_PAGE_LINE 81   /* bytes of a page's line: 80 characters and LF */
+#define HUSKERIVORY_PAGE_ENTRY 405 /* bytes that an entry takes at most: 5 lines */
+
+/* Lays a log out on a service page, for paper of 80 columns. `log` is what advances have written, their entries one after the other
+ * as they came. Every entry begins a line:
+ *
+ *     columns  1 ..  6   its number in this log, six digits: 000001 for the first; of a longer number the last six, so that
+ *                        000000 follows 999999
+ *     columns  8 .. 12   `read` or `write`
+ *     columns 14 .. 20   the register, as RM0492 names it
+ *     columns 22 .. 29   the value, eight hexadecimal digits in capitals
+ *     from column 31 on  what the value holds, from its top bit down, one space apart: the name of each field of one bit that is
+ *                        set; every field of more bits, 0 too, as name, `=` and decimal number; `bit` and its number, as bit27,
+ *                        for each bit that is set and in no field
+ *
+ * What would pass column 80 goes on in column 31 of a new line, broken between two of these and never within one. Each line has 80
+ * characters, spaces at its end, and then LF; there is no other character, and no 0 at the page's end:
+ *
+ *     000001 write CR2     020220A0 AUTOEND NBYTES=2 START SADD=160
+ *     000002 read  ISR     00000001 ADDCODE=0 TXE
+ *     000003 write ICR     00000000
+ *     000004 read  CR1     FFFF0001 STOPFACLR ADDRACLR bit29 bit28 bit27 bit26 bit25
+ *                                   FMP PECEN ALERTEN SMBDEN SMBHEN GCEN WUPEN
+ *                                   NOSTRETCH SBC DNF=0 PE
+ *
+ * An entry takes one to five lines, so a page has HUSKERIVORY_PAGE_LINE to HUSKERIVORY_PAGE_ENTRY bytes for each entry: a buffer with
+ * HUSKERIVORY_PAGE_ENTRY for each is always long enough. Two logs with the same page are the same log.
+ *
+ * Returns 0: `length` is the page's length in bytes, the page stands at the start of `page`, and every byte after it is as it was. Or
+ * returns refusal 15: `length` is 0, and every byte of `page` is as it was. That is so if `log_len` is not a multiple of
+ * HUSKERIVORY_LOG_ENTRY, if the code of an entry is, as a whole word, neither the offset of one of the nine registers nor such an
+ * offset plus HUSKERIVORY_LOG_WRITE, or if the page is longer than `page_len`; and in no other case. A log of no entry has a page of
+ * length 0, in a buffer of any length, 0 too. */
+uint32_t huskerivory_page(const uint8_t *log, uint64_t log_len,
+                          uint8_t *page, uint64_t page_len,
+                          uint64_t *length);
 
 /* ---- Timing */
 

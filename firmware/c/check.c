@@ -1,8 +1,8 @@
 /* Drives the library from C and holds it to document 01: version and sizes, the layout of the structs, the worked timings, the worked
- * run of its section on the bench, cut in two ways, operations that go in pieces (document 02, R-1), and refusals, which must leave
- * everything as it was. Prints a line for each group of checks; the exit status is 1 if one failed. It runs on a core of 32 bits as
- * well: calls are kept in static memory, since their logs are too long for a small stack, and numbers are printed as `unsigned long`,
- * which every printf knows. */
+ * run of its section on the bench, cut in two ways, operations that go in pieces (document 02, R-1), service pages (R-2), and refusals,
+ * which must leave everything as it was. Prints a line for each group of checks; the exit status is 1 if one failed. It runs on a core
+ * of 32 bits as well: calls are kept in static memory, since their logs are too long for a small stack, and numbers are printed as
+ * `unsigned long`, which every printf knows. */
 #include "huskerivory.h"
 
 #include <stddef.h>
@@ -702,6 +702,110 @@ static void check_long_buffers(void) {
     CHECK(huskerivory_begin(&d, longest, 0, longest, HUSKERIVORY_BUFFER + 1, saved, sizeof saved) == HUSKERIVORY_REFUSAL_BUFFER);
 }
 
+/* ---- Pages */
+
+static uint8_t paper[12 * HUSKERIVORY_PAGE_LINE];
+
+/* A log in so many bytes of paper: the returned number and length are these, and the page is these lines, each filled up with spaces. All
+ * other bytes stay as they were. */
+static void check_page(const uint8_t *log, size_t log_len, size_t room, uint32_t number, const char *const *lines, size_t count) {
+    uint64_t length = UNWRITTEN;
+    memset(paper, BLANK, sizeof paper);
+    CHECK(huskerivory_page(log, log_len, paper, room, &length) == number);
+    CHECK(length == count * HUSKERIVORY_PAGE_LINE);
+    for (size_t i = 0; i < count; i++) {
+        const uint8_t *line = paper + i * HUSKERIVORY_PAGE_LINE;
+        size_t words = strlen(lines[i]);
+        CHECK(memcmp(line, lines[i], words) == 0);
+        CHECK(is_filled(line + words, HUSKERIVORY_PAGE_LINE - 1 - words, ' '));
+        CHECK(line[HUSKERIVORY_PAGE_LINE - 1] == '\n');
+    }
+    CHECK(is_filled(paper + count * HUSKERIVORY_PAGE_LINE, sizeof paper - count * HUSKERIVORY_PAGE_LINE, BLANK));
+}
+
+static void check_no_page(const uint8_t *log, size_t log_len, size_t room) {
+    check_page(log, log_len, room, HUSKERIVORY_REFUSAL_PAGE, NULL, 0);
+}
+
+static const char *const worked_page[9] = {
+    "000001 write CR2     020220A0 AUTOEND NBYTES=2 START SADD=160",
+    "000002 read  ISR     00000001 ADDCODE=0 TXE",
+    "000003 read  CR2     020200A0 AUTOEND NBYTES=2 SADD=160",
+    "000004 read  ISR     00000003 ADDCODE=0 TXIS TXE",
+    "000005 write TXDR    00000012 TXDATA=18",
+    "000006 read  ISR     00000003 ADDCODE=0 TXIS TXE",
+    "000007 write TXDR    00000034 TXDATA=52",
+    "000008 read  ISR     00000021 ADDCODE=0 STOPF TXE",
+    "000009 write ICR     00000020 STOPCF",
+};
+
+/* The log of the worked run, as its advances left it: nine lines, 729 bytes. A byte less of paper, a part of an entry at the end, or a
+ * code of no register, in any entry, and nothing is laid out. */
+static void check_worked_page(void) {
+    static const uint32_t codes[] = {0x14, 0x20, 0x2C, 0x114, 0x218, 0x10018, 0x80000018, 0xFFFFFFFF};
+    static call c;
+    make_worked(&c);
+    CHECK(begin(&c) == 0);
+    while (answer_once(&c, 8).report == HUSKERIVORY_REPORT_WAITING) {
+    }
+    size_t log_len = c.entries * HUSKERIVORY_LOG_ENTRY;
+    CHECK(log_len == 72);
+    check_page(c.log, log_len, 729, 0, worked_page, 9);
+    check_page(c.log, log_len, sizeof paper, 0, worked_page, 9);
+    check_no_page(c.log, log_len, 728);
+    check_no_page(c.log, log_len, 0);
+    for (size_t less = 1; less < HUSKERIVORY_LOG_ENTRY; less++) {
+        check_no_page(c.log, log_len - less, sizeof paper);
+    }
+    check_page(c.log, log_len - HUSKERIVORY_LOG_ENTRY, sizeof paper, 0, worked_page, 8);
+    check_page(c.log, 0, 0, 0, NULL, 0);
+    check_page(c.log, 0, sizeof paper, 0, NULL, 0);
+    for (size_t i = 0; i < sizeof codes / sizeof codes[0]; i++) {
+        uint8_t *code = c.log + i * HUSKERIVORY_LOG_ENTRY;
+        uint32_t before = huskerivory_get_word(code);
+        huskerivory_put_word(code, codes[i]);
+        check_no_page(c.log, log_len, sizeof paper);
+        check_no_page(c.log, log_len, 1);
+        huskerivory_put_word(code, before);
+    }
+    check_page(c.log, log_len, 729, 0, worked_page, 9);
+}
+
+/* Bits of no field, fields that are 0, a line to column 80, breaks, and an entry of nothing. Then the longest entry, which takes five
+ * lines. */
+static void check_long_lines(void) {
+    static const uint32_t words[12] = {0, 0xFFFFFFFF, 0x110, 0x0F000000, 4, 0x06FF33FF, 4, 0x06FF17FF, 0x11C, 0, 0x24, 0x100};
+    static const char *const rules[11] = {
+        "000001 read  CR1     FFFFFFFF STOPFACLR ADDRACLR bit29 bit28 bit27 bit26 bit25",
+        "                              FMP PECEN ALERTEN SMBDEN SMBHEN GCEN WUPEN",
+        "                              NOSTRETCH SBC RXDMAEN TXDMAEN bit13 ANFOFF DNF=15",
+        "                              ERRIE TCIE STOPIE NACKIE ADDRIE RXIE TXIE PE",
+        "000002 write TIMINGR 0F000000 PRESC=0 bit27 bit26 bit25 bit24 SCLDEL=0 SDADEL=0",
+        "                              SCLH=0 SCLL=0",
+        "000003 read  CR2     06FF33FF PECBYTE AUTOEND NBYTES=255 START HEAD10R SADD=1023",
+        "000004 read  CR2     06FF17FF PECBYTE AUTOEND NBYTES=255 HEAD10R RD_WRN",
+        "                              SADD=1023",
+        "000005 write ICR     00000000",
+        "000006 read  RXDR    00000100 bit8 RXDATA=0",
+    };
+    static const char *const most[5] = {
+        "000001 read  ICR     FFFFFFFF bit31 bit30 bit29 bit28 bit27 bit26 bit25 bit24",
+        "                              bit23 bit22 bit21 bit20 bit19 bit18 bit17 bit16",
+        "                              bit15 bit14 ALERTCF TIMOUTCF PECCF OVRCF ARLOCF",
+        "                              BERRCF bit7 bit6 STOPCF NACKCF ADDRCF bit2 bit1",
+        "                              bit0",
+    };
+    uint8_t log[sizeof words];
+    for (size_t i = 0; i < sizeof words / sizeof words[0]; i++) {
+        huskerivory_put_word(log + 4 * i, words[i]);
+    }
+    check_page(log, sizeof log, 891, 0, rules, 11);
+    check_no_page(log, sizeof log, 890);
+    huskerivory_put_word(log, 0x1C);
+    check_page(log, HUSKERIVORY_LOG_ENTRY, HUSKERIVORY_PAGE_ENTRY, 0, most, 5);
+    check_no_page(log, HUSKERIVORY_LOG_ENTRY, HUSKERIVORY_PAGE_ENTRY - 1);
+}
+
 int main(void) {
     run_group("version and sizes", check_abi);
     if (failed_groups != 0) {
@@ -723,5 +827,7 @@ int main(void) {
     run_group("lists, and what is wrong with them", check_lists);
     run_group("the last of the most pieces", check_last_piece);
     run_group("buffers that are too long", check_long_buffers);
+    run_group("the page of the worked run, and logs that have none", check_worked_page);
+    run_group("pages with broken lines", check_long_lines);
     return failed_groups == 0 ? 0 : 1;
 }

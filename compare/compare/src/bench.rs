@@ -1,12 +1,11 @@
 //! `compare bench`, `compare bench-text` and `compare store-bench`: bench files, and what the bench program prints of them
-//! beside what the driver does.
+//! beside what the driver does, with the accesses in lines or, by `--page`, as service pages.
 
 mod entry;
 mod generate;
 mod meaning;
-mod sample;
+pub mod sample;
 mod shrink;
-pub mod store;
 mod text;
 
 use std::{fs, io};
@@ -15,14 +14,25 @@ use crate::calls::tally::Tally;
 use crate::difference;
 use crate::process;
 use crate::random::Random;
+pub use text::Accesses;
 
 /// How many words, and how many lines, are shown of a difference at most.
 const SHOWN: usize = 200;
 
+/// The program, and how it is to tell accesses.
+#[derive(Clone, Copy)]
+pub struct Program<'a> {
+    pub path: &'a str,
+    pub accesses: Accesses,
+}
+
 /// Compares random files. True if all went well.
-pub fn compare(files: u64, seed: u64, program: &str) -> io::Result<bool> {
+pub fn compare(files: u64, seed: u64, program: Program) -> io::Result<bool> {
+    let accesses = program.accesses;
     println!(
-        "bench: the file with the longest text, and random ones from seed {seed}, {files} in all"
+        "bench: the file with the longest text, and random ones from seed {seed}, {files} in all, \
+         with accesses {}",
+        accesses.words()
     );
     let mut random = Random::new(seed);
     let mut counts = Counts::default();
@@ -31,7 +41,7 @@ pub fn compare(files: u64, seed: u64, program: &str) -> io::Result<bool> {
             0 => generate::longest(),
             _ => generate::file(&mut random),
         };
-        let expected = text::of(&file);
+        let expected = text::of(&file, accesses);
         if given(program, &file)? != expected.text.as_bytes() {
             show(&file, program)?;
             return Ok(false);
@@ -51,14 +61,18 @@ pub fn compare(files: u64, seed: u64, program: &str) -> io::Result<bool> {
 }
 
 /// Prints the text of a file from the Rust.
-pub fn print(file: &str) -> io::Result<bool> {
-    print!("{}", text::of(&fs::read(file)?).text);
+pub fn print(file: &str, accesses: Accesses) -> io::Result<bool> {
+    print!("{}", text::of(&fs::read(file)?, accesses).text);
     Ok(true)
 }
 
 /// What the program prints, and says by its status where that is no success.
-fn given(program: &str, file: &[u8]) -> io::Result<Vec<u8>> {
-    let output = process::run(program, file)?;
+fn given(program: Program, file: &[u8]) -> io::Result<Vec<u8>> {
+    let arguments: &[&str] = match program.accesses {
+        Accesses::Lines => &[],
+        Accesses::Page => &["--page", "/dev/stdin"],
+    };
+    let output = process::run(program.path, arguments, file)?;
     let failure = process::failure(&output);
     let mut text = output.stdout;
     text.extend(failure.unwrap_or_default().bytes());
@@ -66,9 +80,10 @@ fn given(program: &str, file: &[u8]) -> io::Result<Vec<u8>> {
 }
 
 /// Shows a difference by the smallest file that was found to have one.
-fn show(file: &[u8], program: &str) -> io::Result<()> {
+fn show(file: &[u8], program: Program) -> io::Result<()> {
+    let expected = |file: &[u8]| text::of(file, program.accesses).text;
     let smallest = shrink::smallest(file, |file| {
-        Ok(given(program, file)? != text::of(file).text.as_bytes())
+        Ok(given(program, file)? != expected(file).as_bytes())
     })?;
     let (words, rest) = entry::words(&smallest);
     let shown: Vec<String> = words.iter().take(SHOWN).map(shown).collect();
@@ -80,7 +95,7 @@ fn show(file: &[u8], program: &str) -> io::Result<()> {
     if !rest.is_empty() {
         println!("and the bytes {rest:?}");
     }
-    let expected = text::of(&smallest).text;
+    let expected = expected(&smallest);
     let given = given(program, &smallest)?;
     let given = String::from_utf8_lossy(&given);
     println!("\nexpected\n\n{}\ngiven\n\n{}", cut(&expected), cut(&given));

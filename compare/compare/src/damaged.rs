@@ -7,6 +7,7 @@
 
 mod bytes;
 mod memory;
+mod pages;
 
 use std::time::{Duration, Instant};
 
@@ -18,6 +19,7 @@ use crate::rattle::{
 };
 use bytes::Bytes;
 use memory::Memory;
+use pages::{Page, Pages};
 
 /// A real run is left for another after so many calls, ended or not.
 const CALLS: u64 = 100;
@@ -74,10 +76,12 @@ struct Boundary {
     buffer: Memory,
     answers: Memory,
     log: Memory,
+    page: Memory,
     calls: u64,
     /// Advances by their reports, and refused ones by their numbers.
     reports: [u64; FULL as usize + 1],
     refusals: [u64; 14],
+    pages: Pages,
 }
 
 impl Boundary {
@@ -94,35 +98,43 @@ impl Boundary {
             buffer: memory(),
             answers: memory(),
             log: memory(),
+            page: memory(),
             calls: 0,
             reports: [0; FULL as usize + 1],
             refusals: [0; 14],
+            pages: Pages::default(),
         }
     }
 
     fn print(&self) {
         println!("damaged: advances by report: {:?}", self.reports);
         println!("damaged: refused ones by number: {:?}", self.refusals);
+        println!("damaged: {:?}", self.pages);
         println!("damaged: {} calls, all as they should be", self.calls);
     }
 
     fn all_reached(&self) -> bool {
         let all = self.reports.iter().all(|&count| count > 0)
-            && REFUSALS.iter().all(|&it| self.refusals[it as usize] > 0);
+            && REFUSALS.iter().all(|&it| self.refusals[it as usize] > 0)
+            && self.pages.all_reached();
         if !all {
-            println!("damaged: a report or a refusal was not reached");
+            println!("damaged: a report, a refusal or a kind of page was not reached");
         }
         all
     }
 
     /// Makes a call or two on a real run, mostly with something damaged.
     fn call(&mut self, real: &mut Bytes, random: &mut Random) -> Result<(), String> {
+        let turn = random.up_to(8);
+        if turn == 2 {
+            return self.page(random);
+        }
         let mut lent = real.lent(random);
         let damaged = random.up_to(3) != 0;
         if damaged {
             lent.damage(random);
         }
-        match random.up_to(7) {
+        match turn {
             0 => self.begin(&lent, random),
             1 => self.timing(random),
             _ => self.advance(&lent, random).map(|(given, after)| {
@@ -169,6 +181,19 @@ impl Boundary {
         let fields = self.left.lend_numbers(fields, to_end(random));
         rattle::unpack_into(word, fields);
         held("unpacked fields", *fields == rattle::unpack(word))
+    }
+
+    /// The page of a log, damaged or not. What the lines say is `compare page`'s to look at.
+    fn page(&mut self, random: &mut Random) -> Result<(), String> {
+        self.count();
+        let lent = Page::any(random);
+        let log = self.log.lend(&lent.log, to_end(random));
+        let page = self.page.lend(&lent.page, to_end(random));
+        let length = self.left.lend_numbers(u64::MAX, to_end(random));
+        let number = rattle::page(log, page, length);
+        kept("the log of a page", log, &lent.log)
+            .and_then(|()| lent.hold(number, *length, page, &mut self.pages))
+            .map_err(|wrong| format!("call {}: {wrong}\n{lent:X?}", self.calls))
     }
 
     fn begin(&mut self, lent: &Bytes, random: &mut Random) -> Result<(), String> {
@@ -390,5 +415,22 @@ impl Bytes {
         self.saved = after.saved;
         self.buffer = after.buffer;
         self.answers.drain(..4 * used);
+    }
+}
+
+#[cfg(test)]
+mod tests {
+    use super::*;
+
+    #[test]
+    fn pages_are_laid_out_at_guards() {
+        for heap in [false, true] {
+            let mut boundary = Boundary::new(heap);
+            let mut random = Random::new(1);
+            for _ in 0..2_000 {
+                assert_eq!(boundary.page(&mut random), Ok(()));
+            }
+            assert!(boundary.pages.all_reached(), "{:?}", boundary.pages);
+        }
     }
 }

@@ -6,6 +6,7 @@ mod calls;
 mod damaged;
 mod difference;
 mod packing;
+mod page;
 mod pairs;
 mod process;
 mod random;
@@ -14,6 +15,7 @@ mod runs;
 mod shrink;
 mod speed;
 mod store;
+mod stored;
 mod timing;
 
 use std::{env, process::ExitCode};
@@ -23,10 +25,14 @@ const USAGE: &str = "usage: compare timing [--pairs N] [--seed S]
        compare runs [--runs N | --seconds S] [--seed X]
        compare speed
        compare damaged [--calls N | --seconds S] [--seed X] [--heap]
-       compare bench --program FILE [--files N] [--seed S]
-       compare bench-text --file FILE
+       compare page [--logs N] [--seed S]
+       compare page-program --program FILE [--logs N] [--seed S]
+       compare page-text --file FILE
+       compare bench --program FILE [--page] [--files N] [--seed S]
+       compare bench-text --file FILE [--page]
        compare store-timing --inputs FILE --answers FILE [--check]
        compare store-calls --inputs FILE --answers FILE [--check]
+       compare store-page --crate DIR [--check]
        compare store-bench --crate DIR [--check]";
 
 fn main() -> ExitCode {
@@ -43,7 +49,7 @@ fn main() -> ExitCode {
 /// Whether the command found all well, or what is wrong with its arguments or files.
 fn command(mut arguments: Arguments) -> Result<bool, String> {
     let command = arguments.first()?;
-    if let "timing" | "packing" | "runs" | "speed" | "damaged" = command.as_str() {
+    if let "timing" | "packing" | "runs" | "speed" | "damaged" | "page" = command.as_str() {
         rattle::check_library()?;
     }
     match command.as_str() {
@@ -86,30 +92,42 @@ fn command(mut arguments: Arguments) -> Result<bool, String> {
             Ok(damaged::compare(limit, seed, heap))
         }
         "bench" => {
-            let program = arguments.needed("--program")?;
+            let path = &arguments.needed("--program")?;
+            let accesses = arguments.accesses();
             let files = arguments.number("--files", 5_000)?;
             let seed = arguments.number("--seed", 1)?;
             arguments.none_left()?;
-            bench::compare(files, seed, &program).map_err(|error| error.to_string())
+            let program = bench::Program { path, accesses };
+            bench::compare(files, seed, program).map_err(|error| error.to_string())
+        }
+        "page" => {
+            let logs = arguments.number("--logs", 100_000)?;
+            let seed = arguments.number("--seed", 1)?;
+            arguments.none_left()?;
+            Ok(page::compare(logs, seed))
+        }
+        "page-program" => {
+            let program = arguments.needed("--program")?;
+            let logs = arguments.number("--logs", 1_000)?;
+            let seed = arguments.number("--seed", 1)?;
+            arguments.none_left()?;
+            page::compare_program(logs, seed, &program).map_err(|error| error.to_string())
+        }
+        "page-text" => {
+            let file = arguments.needed("--file")?;
+            arguments.none_left()?;
+            page::print_file(&file).map_err(|error| format!("{file}: {error}"))
         }
         "store-timing" => store(arguments, store::timing()),
         "store-calls" => store(arguments, calls::sample::texts()),
         "bench-text" => {
-            let file = arguments.value("--file")?.ok_or("--file is missing")?;
+            let file = arguments.needed("--file")?;
+            let accesses = arguments.accesses();
             arguments.none_left()?;
-            bench::print(&file).map_err(|error| format!("{file}: {error}"))
+            bench::print(&file, accesses).map_err(|error| format!("{file}: {error}"))
         }
-        "store-bench" => {
-            let folder = arguments.needed("--crate")?;
-            let check = arguments.flag("--check");
-            arguments.none_left()?;
-            let result = if check {
-                bench::store::check(&folder)
-            } else {
-                bench::store::write(&folder)
-            };
-            result.map_err(|error| error.to_string())
-        }
+        "store-page" => store_files(arguments, page::sample::stored()),
+        "store-bench" => store_files(arguments, bench::sample::stored()),
         _ => Err(format!("there is no command {command}")),
     }
 }
@@ -128,6 +146,19 @@ fn store(mut arguments: Arguments, texts: store::Texts) -> Result<bool, String> 
     result.map_err(|error| error.to_string())
 }
 
+/// Writes a sample to a program's crate, or checks it.
+fn store_files(mut arguments: Arguments, sample: stored::Sample) -> Result<bool, String> {
+    let folder = arguments.needed("--crate")?;
+    let check = arguments.flag("--check");
+    arguments.none_left()?;
+    let result = if check {
+        sample.check(&folder)
+    } else {
+        sample.write(&folder)
+    };
+    result.map_err(|error| error.to_string())
+}
+
 /// The words of the command line that were not taken yet.
 struct Arguments(Vec<String>);
 
@@ -142,6 +173,14 @@ impl Arguments {
     fn flag(&mut self, name: &str) -> bool {
         let place = self.0.iter().position(|word| word == name);
         place.map(|place| self.0.remove(place)).is_some()
+    }
+
+    /// How the bench tells accesses.
+    fn accesses(&mut self) -> bench::Accesses {
+        match self.flag("--page") {
+            true => bench::Accesses::Page,
+            false => bench::Accesses::Lines,
+        }
     }
 
     fn value(&mut self, name: &str) -> Result<Option<String>, String> {

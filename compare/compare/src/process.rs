@@ -4,9 +4,10 @@ use std::io::{self, Write};
 use std::process::{Command, Output, Stdio};
 use std::thread;
 
-/// What the program does with this as its standard input.
-pub fn run(path: &str, input: &[u8]) -> io::Result<Output> {
+/// What the program does with these arguments and this as its standard input.
+pub fn run(path: &str, arguments: &[&str], input: &[u8]) -> io::Result<Output> {
     let mut child = Command::new(path)
+        .args(arguments)
         .stdin(Stdio::piped())
         .stdout(Stdio::piped())
         .stderr(Stdio::piped())

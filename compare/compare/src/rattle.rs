@@ -162,6 +162,13 @@ extern "C" {
     fn huskerivory_timing(clock: u32, frequency: u32, timingr: *mut u32) -> u32;
     fn huskerivory_pack(fields: *const Fields, timingr: *mut u32) -> u32;
     fn huskerivory_unpack(timingr: u32, fields: *mut Fields);
+    fn huskerivory_page(
+        log: *const u8,
+        log_len: u64,
+        page: *mut u8,
+        page_len: u64,
+        length: *mut u64,
+    ) -> u32;
 
     fn huskerivory_begin(
         description: *const Description,
@@ -241,9 +248,22 @@ pub const UNWRITTEN_FIELDS: Fields = Fields {
     scll: 0xA5,
 };
 
-// SAFETY, of the next three: each pointer and length are those of one slice, which is never at null,
+// SAFETY, of the next four: each pointer and length are those of one slice, which is never at null,
 // or of a struct or number that is borrowed; the borrows keep what is written apart from all else,
 // and nothing is kept after the call.
+
+/// The service page of a log: 0, or a refusal's number; its length is left where it is told.
+pub fn page(log: &[u8], page: &mut [u8], length: &mut u64) -> u32 {
+    unsafe {
+        huskerivory_page(
+            log.as_ptr(),
+            log.len() as u64,
+            page.as_mut_ptr(),
+            page.len() as u64,
+            length,
+        )
+    }
+}
 
 /// Begins a call: 0 and the saved call, or a refusal's number and, where there is room for one, the
 /// saved call that no advance takes.

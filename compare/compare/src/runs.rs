@@ -11,7 +11,7 @@ mod kinds;
 mod long;
 mod polls;
 mod progress;
-mod room;
+pub mod room;
 mod saved;
 mod show;
 mod shown;

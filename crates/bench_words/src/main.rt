@@ -3,7 +3,6 @@
 // standard input.
 mod back;
 mod names;
-mod part;
 mod show;
 mod text;
 mod turn;

@@ -1,6 +1,5 @@
 // The text of a bench file: words of 32 bits in decimal or, after 0x, hexadecimal, with blanks or line ends between them. `#`
 // begins a comment, which ends with its line.
-use crate::part;
 use crate::show;
 use libc::STDERR_FILENO;
 use numerals::Parsed;
@@ -12,7 +11,7 @@ fn refuse(line: usize, word: &[u8]) {
     show::complain(b"line ");
     io::print_decimal(STDERR_FILENO, line as u64);
     show::complain(b": not a word of 32 bits: ");
-    show::complain(part::start(word, SHOWN));
+    show::complain(input::start(word, SHOWN));
     show::complain(b"\n");
 }
 

@@ -1,6 +1,5 @@
 // The input, read whole, and the way that it is turned.
 use crate::back;
-use crate::part;
 use crate::show;
 use crate::text;
 use input::Input;
@@ -49,7 +48,7 @@ fn read_room(fd: i32, name: &[u8], room: &mut [u8; ROOM]) -> Input {
 }
 
 fn turn_room(way: Way, name: &[u8], room: &[u8; ROOM], n: usize) {
-    let bytes = part::start(room, n);
+    let bytes = input::start(room, n);
     match way {
         Way::ToWords => to_words(name, bytes),
         Way::ToText => to_text(name, bytes),

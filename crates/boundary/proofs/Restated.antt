@@ -1,11 +1,11 @@
--- What the contracts of the seven exported functions say, again and in other words. Nothing rests on this file: it is proved so
+-- What the contracts of the eight exported functions say, again and in other words. Nothing rests on this file: it is proved so
 -- that a contract that loses a part is noticed. Assumes nothing.
-use Prim.Native.Nat.{ℕ, _/_, _^_, _*_, _≤_, _<_}
+use Prim.Native.Nat.{ℕ, _/_, _%_, _^_, _*_, _≤_, _<_}
 use mathlib.Core.Path.{_≡_, refl, ap, _∙_}
 use mathlib.Core.Bool.{Bool, true, false, not, _&&_, _||_}
-use mathlib.Core.List.{List, [], _∷_}
-use lib.Dec.{T, eqb, ltb, leb, ltb→lt, lt→ltb, lit<}
-use lib.ListN.{length, getD}
+use mathlib.Core.List.{List, [], _∷_, _++_}
+use lib.Dec.{T, eqb, ltb, leb, ltb→lt, lt→ltb, lit<, leb·zero}
+use lib.ListN.{length, getD, drop}
 use borrow.Author.Tests.{eq-eqb, lt-ltb, lt-leb}
 use Rattle.words.proofs.Turns.{in-words, length-bytes}
 use Rattle.calls.proofs.Every.{every-step}
@@ -32,6 +32,11 @@ use Rattle.calls.specs.declared.Verdict.the-variants.{Accepted, Refused as Reje
 use Rattle.driver.proofs.CameBack.{CameBack}
 use Rattle.driver.specs.Next.{nextFor}
 use Rattle.fields.specs.Field.{place, getOf, putOf, withBits}
+use Rattle.page.proofs.Promised.{page-promises}
+use Rattle.page.specs.Page.{linesOf, textOf, pageOf, faultFrom, faultOf, pageIn}
+use Rattle.page.specs.Promises.{EachKnown}
+use Rattle.page.specs.declared.Page.{Page}
+use Rattle.page.specs.declared.Page.the-variants.{Laid, Refused as NotLaid}
 use Rattle.registers.specs.Map.{offsetOf}
 use Rattle.registers.specs.declared.Register.{Register}
 use Rattle.saved.specs.Saved.{savedLength, savedBytes, savedIn, writtenTo}
@@ -46,6 +51,7 @@ use Rattle.words.specs.Words.{Below, wordsIn, bytesOf}
 use Rattle.boundary.specs.Abi.{AbiLeft}
 use Rattle.boundary.specs.Calls.{descriptionOf, operationsIn, accessAnswer, numbersOf, answerFor}
 use Rattle.boundary.specs.Demand.{BoundaryBegin, BoundaryAdvance, saysRefused, answerOf, requestIn}
+use Rattle.boundary.specs.Page.{PageLeft, asPageLeft, pageLeft}
 use Rattle.boundary.specs.Timing.{packedAnswer, timedAnswer, timingIn, fieldsOf}
 use Rattle.boundary.specs.declared.TimingAnswer.{TimingAnswer}
 use Rattle.boundary.specs.declared.call.AccessAnswer.{AccessAnswer}
@@ -54,6 +60,8 @@ use Rattle.boundary.proofs.huskerivory_abi as abi
 use Rattle.boundary.proofs.huskerivory_abi.Reads as abi-reads
 use Rattle.boundary.proofs.huskerivory_next as next-access
 use Rattle.boundary.proofs.huskerivory_next.Reads as next-reads
+use Rattle.boundary.proofs.huskerivory_page as page
+use Rattle.boundary.proofs.huskerivory_page.Reads as page-reads
 use Rattle.boundary.proofs.huskerivory_pack as pack
 use Rattle.boundary.proofs.huskerivory_pack.Reads as pack-reads
 use Rattle.boundary.proofs.huskerivory_timing as timing
@@ -294,3 +302,38 @@ module _ (N : NextCall) where
 
   next-refused : (r : Refusal) → says (next.Refused r) → access ≡ record { kind = 3; value = refusalNumber r }
   next-refused r e = N .contract ∙ ap accessAnswer e
+
+-- ---- a service page: 0 with its length, and the page before what stood after it; or 15 with length 0, and every byte as it was
+abbrev PageCall : Type 0
+PageCall = CameBack page.ended page-reads.Post
+
+no-entries : (lent : List ℕ) → pageLeft (pageIn [] lent) ≡ asPageLeft 0 0 lent
+unfolding pageIn faultOf faultFrom wordsIn linesOf textOf
+no-entries lent = rw (leb·zero (length lent))
+
+module _ (C : PageCall) where
+  abbrev log : List ℕ
+  log = (let (log, _) = C .given in log .now)
+
+  abbrev lent : List ℕ
+  lent = (let (_, (page, _)) = C .given in page .now)
+
+  abbrev page-left : PageLeft
+  page-left = (let (_, (page, (length, _))) = C .left in asPageLeft (C .gave) (length .now) (page .now))
+
+  abbrev page-text : List ℕ
+  page-text = pageOf (wordsIn log)
+
+  page-laid : length log % 8 ≡ 0 → EachKnown (wordsIn log) → length page-text ≤ length lent →
+      page-left ≡ asPageLeft 0 (length page-text) (page-text ++ drop (length page-text) lent)
+  page-laid h k l = C .contract ∙ ap pageLeft (page-promises .accepted log lent h k l)
+
+  page-refused : (length log % 8 ≡ 0 → EachKnown (wordsIn log) → length page-text ≤ length lent → ⊥) → page-left ≡ asPageLeft 15 0 lent
+  page-refused n = C .contract ∙ go (pageIn log lent .page) refl
+    where
+      go : (p : Page) → pageIn log lent .page ≡ p → pageLeft (pageIn log lent) ≡ asPageLeft 15 0 lent
+      go (Laid k) e = absurd (let (h, l, m) = page-promises .only-then log lent k e in n h l m)
+      go NotLaid e = rw (e, page-promises .unchanged log lent e)
+
+  page-of-nothing : log ≡ [] → page-left ≡ asPageLeft 0 0 lent
+  page-of-nothing e = C .contract ∙ ap (λ (l : List ℕ). pageLeft (pageIn l lent)) e ∙ no-entries lent

@@ -9,6 +9,7 @@ ghost use Rattle.timing.specs.Timingr.{packOf, unpackOf};
 ghost use Rattle.words.specs.Words.{Below};
 ghost use Rattle.boundary.specs.Abi.{asAbiLeft, abiLeft};
 ghost use Rattle.boundary.specs.Calls.{descriptionOf, operationsIn, asBeginLeft, beginLeftIn, kindAndValue, accessIn, asAdvanceLeft, advanceLeftIn};
+ghost use Rattle.boundary.specs.Page.{asPageLeft, pageLeftIn};
 ghost use Rattle.boundary.specs.Timing.{answer, packedAnswer, packedTimed, timedAnswer, timingIn, fieldsOf};
 use timing::I2cTiming;
 use timing::Packed;
@@ -172,4 +173,14 @@ pub extern "C" fn huskerivory_next(
     let access = call::next(d, &ops[..n], saved, buffer);
     *value = access.value;
     access.kind
+}
+
+// Lays a log out as a service page. 0 and the page's length, or 15 and 0.
+#[no_mangle]
+pub extern "C" fn huskerivory_page(log: &[u8], page: &mut [u8], length: &mut u64) -> u32
+    ensures { λ r. ⌜ asPageLeft r (now (length .exit)) (now (page .exit)) ≡ pageLeftIn (now (log .entry)) (now (page .entry)) ⌝ }
+{
+    let laid = page::lay_out(log, page);
+    *length = laid.length() as u64;
+    laid.refusal()
 }

@@ -27,3 +27,12 @@ pub fn read(fd: i32, name: &[u8], buf: &mut [u8]) -> Input
     }
     Input { n, whole: true }
 }
+
+// The first n bytes, or all of them where there are fewer.
+pub fn start(bytes: &[u8], n: usize) -> &[u8] {
+    if n <= bytes.len() {
+        &bytes[0..n]
+    } else {
+        bytes
+    }
+}

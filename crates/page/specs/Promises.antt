@@ -1,16 +1,17 @@
 -- What is promised of pages. Assumes nothing.
-use Prim.Native.Nat.{ℕ, _*_, _^_, _≤_, _<_}
+use Prim.Native.Nat.{ℕ, _*_, _%_, _^_, _≤_, _<_}
 use mathlib.Core.Path.{_≡_}
 use mathlib.Core.Bool.{true}
-use mathlib.Core.List.{List, [], _∷_}
-use lib.ListN.{length}
+use mathlib.Core.List.{List, [], _∷_, _++_}
+use lib.ListN.{length, drop}
 use Rattle.registers.specs.declared.Register.{Register}
 use Rattle.window.specs.Codes.{codes}
 use Rattle.words.specs.Words.{wordsIn, Below}
 use Rattle.page.specs.Back.{fieldColumns, valueIn}
-use Rattle.page.specs.Page.{accessOf, isKnown, entryLines, linesOf, textOf, pageOf, faultFrom, faultOf}
+use Rattle.page.specs.Page.{accessOf, isKnown, entryLines, linesOf, textOf, pageOf, faultFrom, faultOf, left, pageIn}
 use Rattle.page.specs.declared.Access.the-variants.{Read, Write}
 use Rattle.page.specs.declared.Fault.the-variants.{Nothing}
+use Rattle.page.specs.declared.Page.the-variants.{Laid, Refused}
 
 -- every character is printable: from space (32) to `~` (126)
 abbrev pub Printable : List ℕ → Type 0
@@ -36,6 +37,14 @@ pub record PagePromises : Type 0 where
   -- a log is sound exactly if its codes are known and its entries whole
   pub sound : (n : ℕ) (log : List ℕ) → faultFrom n log ≡ Nothing → EachKnown log
   pub only-so : (n : ℕ) (log : List ℕ) → EachKnown log → faultFrom n log ≡ Nothing
+  -- a page is laid out exactly if the entries are whole, each code is known and there is room for the page; then what stood after it stays,
+  -- and if it is refused every byte does
+  pub accepted : (log buffer : List ℕ) → length log % 8 ≡ 0 → EachKnown (wordsIn log) → length (pageOf (wordsIn log)) ≤ length buffer →
+      pageIn log buffer ≡ left (Laid (length (pageOf (wordsIn log)))) (pageOf (wordsIn log) ++ drop (length (pageOf (wordsIn log))) buffer)
+  pub only-then : (log buffer : List ℕ) (n : ℕ) → pageIn log buffer .page ≡ Laid n →
+      (length log % 8 ≡ 0) × EachKnown (wordsIn log) × (length (pageOf (wordsIn log)) ≤ length buffer)
+  pub unchanged : (log buffer : List ℕ) → pageIn log buffer .page ≡ Refused → pageIn log buffer .buffer ≡ buffer
+
   -- two logs with equal pages are the same log
   pub same-log : (log log′ : List ℕ) → Below (2 ^ 32) log → Below (2 ^ 32) log′ → EachKnown log → EachKnown log′ → pageOf log ≡ pageOf log′ → log ≡ log′
   -- so are two logs in bytes

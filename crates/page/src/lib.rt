@@ -78,7 +78,7 @@ pub fn put_entries(p: Cursor, first: u32, log: &[u32], out: &mut [u8]) -> Cursor
 }
 
 // The same for a log in bytes, from entry 1 on: its page.
-pub fn put_log(p: Cursor, log: &[u8], out: &mut [u8]) -> Cursor
+fn put_log(p: Cursor, log: &[u8], out: &mut [u8]) -> Cursor
     ensures { λ r. ⌜ laid r (now (out .exit)) ≡ emitOf (pageOf (wordsIn (now (log .entry)))) (laid p (now (out .entry))) ⌝ }
 {
     let mut q = p;

@@ -17,12 +17,35 @@ pub struct Entry {
 }
 
 impl Entry {
+    /// The bytes of an entry.
+    pub const LENGTH: usize = size_of::<Entry>();
+
     const WRITE: u32 = 0x100;
 
     pub const BLANK: Entry = Entry {
         code: [0; 4],
         value: [0; 4],
     };
+
+    /// A read of a register by its offset.
+    pub fn read(offset: u32, value: u32) -> Self {
+        Entry {
+            code: offset.to_le_bytes(),
+            value: value.to_le_bytes(),
+        }
+    }
+
+    /// A write to it.
+    pub fn write(offset: u32, value: u32) -> Self {
+        Entry::read(offset | Entry::WRITE, value)
+    }
+
+    /// Its bytes, as they stand in a log.
+    pub fn to_bytes(self) -> [u8; Entry::LENGTH] {
+        let [a, b, c, d] = self.code;
+        let [e, f, g, h] = self.value;
+        [a, b, c, d, e, f, g, h]
+    }
 
     /// Offset and value, if the access is a write.
     pub fn as_write(&self) -> Option<(u32, u32)> {
@@ -72,7 +95,7 @@ const SIZES: [u32; 8] = [
     size_of::<Description>() as u32,
     SavedCall::LENGTH as u32,
     size_of::<Advanced>() as u32,
-    size_of::<Entry>() as u32,
+    Entry::LENGTH as u32,
     64,
     65_535,
     13,
@@ -122,6 +145,14 @@ extern "C" {
     fn huskerivory_timing(clock: u32, frequency: u32, timingr: *mut u32) -> u32;
     fn huskerivory_pack(fields: *const I2cTiming, timingr: *mut u32) -> u32;
     fn huskerivory_unpack(timingr: u32, fields: *mut I2cTiming);
+
+    fn huskerivory_page(
+        log: *const u8,
+        log_len: u64,
+        page: *mut u8,
+        page_len: u64,
+        length: *mut u64,
+    ) -> u32;
 }
 
 /// Whether the library that is linked is the one that this module was written for. Every way into
@@ -140,11 +171,11 @@ fn bytes_of<T>(slice: &[T]) -> u64 {
     size_of_val(slice) as u64
 }
 
-// SAFETY, of the three that take slices: each pointer comes from a slice, an array or a local with
+// SAFETY, of the four that take slices: each pointer comes from a slice, an array or a local with
 // its size in bytes, so that it is not null and its bytes are readable; what is written through
-// comes from a `&mut`, which overlaps nothing else, and takes any bytes (`SavedCall`, `Entry` and
-// the buffer are bytes, `Advanced` is numbers). `Operation` is four bytes. The library keeps no
-// pointer.
+// comes from a `&mut`, which overlaps nothing else, and takes any bytes (`SavedCall`, `Entry`, the
+// buffer and the page are bytes, `Advanced` is numbers). `Operation` is four bytes. The library
+// keeps no pointer.
 
 pub fn begin(
     description: Description,
@@ -233,6 +264,26 @@ pub fn advance(
         report: report(number, left.value as u32, left.awaited as u32),
         used: left.used as usize,
         written: left.written as usize,
+    }
+}
+
+/// The length of the page that was laid out.
+pub fn page(log: &[u8], page: &mut [u8]) -> Result<usize, Refusal> {
+    known()?;
+    let mut length = 0;
+    let refusal = unsafe {
+        huskerivory_page(
+            log.as_ptr(),
+            bytes_of(log),
+            page.as_mut_ptr(),
+            bytes_of(page),
+            &mut length,
+        )
+    };
+    match refusal {
+        // No page is longer than the slice that has it.
+        0 => Ok(length as usize),
+        number => Err(Refusal(number)),
     }
 }
 

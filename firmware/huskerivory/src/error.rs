@@ -21,7 +21,7 @@ pub enum Error {
     Refused(Refusal),
 }
 
-/// Document 01's number of a refusal, or [`Refusal::LIBRARY`]. 9 is out of use.
+/// Document 01's number of a refusal, document 02's 15, or [`Refusal::LIBRARY`]. 9 is out of use.
 #[derive(Clone, Copy, Debug, PartialEq, Eq)]
 pub struct Refusal(pub u32);
 
@@ -33,7 +33,11 @@ impl Refusal {
     /// There is no byte to move where there has to be one, or there are more than 65,535.
     pub const BUFFER: Refusal = Refusal(11);
 
-    /// Its words in document 01.
+    /// A log is no whole number of entries or has a code of no register, or its page is longer than
+    /// the lent bytes.
+    pub const PAGE: Refusal = Refusal(15);
+
+    /// Its words in document 01, or, of 15, what it is about.
     pub const fn words(self) -> &'static str {
         match self.0 {
             0 => "another library",
@@ -49,6 +53,7 @@ impl Refusal {
             11 => "buffer",
             12 => "no such call",
             13 => "saved call",
+            15 => "page",
             _ => "unknown",
         }
     }

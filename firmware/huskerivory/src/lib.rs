@@ -22,6 +22,9 @@
 //! # }
 //! ```
 //!
+//! What was read and written can be kept as a log ([`Logged`]) and laid out for paper ([`page()`]),
+//! with every register and field by its name.
+//!
 //! A call that cannot be made is refused with a number ([`Refusal`]): then no register is touched
 //! and no byte is changed. There is no `unsafe` outside the module that calls the library, no
 //! allocation, and no panic.
@@ -34,8 +37,10 @@ mod boundary;
 mod controller;
 mod description;
 mod error;
+mod logged;
 mod operation;
 mod outcome;
+mod page;
 mod registers;
 mod running;
 mod saved_call;
@@ -45,8 +50,10 @@ mod timing;
 pub use controller::I2c;
 pub use description::{Ack, Address, AddressMode, Description, TargetConfig, TargetListenEvent};
 pub use error::{Error, ErrorKind, NoAcknowledgeSource, Refusal};
+pub use logged::Logged;
 pub use operation::Operation;
 pub use outcome::{Outcome, TargetEvent};
+pub use page::{page, PAGE_ENTRY, PAGE_LINE};
 pub use registers::{Peripheral, Registers};
 pub use running::Running;
 pub use saved_call::SavedCall;

@@ -180,4 +180,5 @@ fn refusals_have_words() {
     );
     assert_eq!(Refusal(9).words(), "unknown", "9 is out of use");
     assert_eq!(Refusal::BUFFER.to_string(), "refused 11 buffer");
+    assert_eq!(Refusal::PAGE.to_string(), "refused 15 page");
 }

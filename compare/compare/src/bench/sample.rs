@@ -3,15 +3,13 @@
 
 use super::entry;
 use super::meaning;
-use super::text;
+use super::text::{self, Accesses};
 use crate::calls::build::*;
 use crate::calls::case::Case;
 use crate::calls::chip::*;
 use crate::calls::run::Run;
 use crate::calls::sample as calls;
-
-/// A file with its name.
-pub type File = (String, Vec<u8>);
+use crate::stored::{File, Sample};
 
 /// All files, in the order of the text.
 pub fn files() -> Vec<File> {
@@ -33,9 +31,15 @@ pub fn files() -> Vec<File> {
     .concat()
 }
 
-/// What the program has to print of all files.
-pub fn text(files: &[File]) -> String {
-    files.iter().map(|(_, file)| text::of(file).text).collect()
+/// The files, and what the program has to print of them.
+pub fn stored() -> Sample {
+    let files = files();
+    let text = files.iter().map(|(_, file)| printed(file).text).collect();
+    Sample { files, text }
+}
+
+fn printed(file: &[u8]) -> text::Printed {
+    text::of(file, Accesses::Lines)
 }
 
 /// Calls in as many files as they take: `NAME.bench`, or `NAME-1.bench` and so on.
@@ -471,7 +475,7 @@ mod tests {
     use std::collections::BTreeSet;
 
     fn all_runs() -> Vec<Run> {
-        let printed = files().into_iter().map(|(_, file)| text::of(&file));
+        let printed = files().into_iter().map(|(_, file)| printed(&file));
         printed.filter_map(|it| it.calls).flatten().collect()
     }
 
@@ -541,22 +545,21 @@ mod tests {
             assert!(meaning::read(&meaning::write(&cases)).is_some(), "{name}");
         }
         for (name, file) in wrong_files() {
-            assert_eq!(text::of(&file).text, "file 14\n", "{name}");
+            assert_eq!(printed(&file).text, "file 14\n", "{name}");
         }
     }
 
     #[test]
     fn files_and_text_are_of_a_size() {
-        let files = files();
+        let Sample { files, text } = stored();
         let names: BTreeSet<&String> = files.iter().map(|(name, _)| name).collect();
         assert_eq!(names.len(), files.len());
         assert!(files.len() < 60, "{} files", files.len());
-        let size = text(&files).len();
-        assert!(size < 600_000, "{size} bytes");
+        assert!(text.len() < 600_000, "{} bytes", text.len());
         // Whatever is not meant to be wrong is right.
         let refused = files
             .iter()
-            .filter(|(_, file)| text::of(file).calls.is_none());
+            .filter(|(_, file)| printed(file).calls.is_none());
         assert_eq!(refused.count(), wrong_files().len());
     }
 }

@@ -3,9 +3,28 @@
 use super::meaning;
 use crate::calls::pieces::later_controls;
 use crate::calls::run::Run;
+use crate::page;
 
 /// The text of a file that is refused.
 const REFUSED: &str = "file 14\n";
+
+/// How a call's accesses are told.
+#[derive(Clone, Copy, Debug, PartialEq, Eq)]
+pub enum Accesses {
+    /// A line each, as document 01 has it.
+    Lines,
+    /// As a service page, document 02's R-2, which begins anew for each call.
+    Page,
+}
+
+impl Accesses {
+    pub fn words(self) -> &'static str {
+        match self {
+            Accesses::Lines => "in lines",
+            Accesses::Page => "as pages",
+        }
+    }
+}
 
 pub struct Printed {
     pub text: String,
@@ -15,7 +34,7 @@ pub struct Printed {
     pub later: Vec<&'static str>,
 }
 
-pub fn of(file: &[u8]) -> Printed {
+pub fn of(file: &[u8], accesses: Accesses) -> Printed {
     let Some(cases) = meaning::read(file) else {
         return Printed {
             text: REFUSED.to_string(),
@@ -26,7 +45,11 @@ pub fn of(file: &[u8]) -> Printed {
     let calls: Vec<Run> = cases.iter().map(Run::of).collect();
     let mut text = String::new();
     for run in &calls {
-        run.write_accesses(&mut text);
+        run.write_outcome(&mut text);
+        match accesses {
+            Accesses::Lines => run.write_accesses(&mut text),
+            Accesses::Page => text.push_str(&page::of_accesses(&run.log)),
+        }
         if !run.is_refused() && shows_buffer(run.call) {
             run.write_buffer(&mut text);
         }
@@ -53,35 +76,54 @@ mod tests {
     use crate::calls::expected::DOCUMENT_01;
 
     fn printed(words: &[u32]) -> String {
-        of(&bytes(words)).text
+        of(&bytes(words), Accesses::Lines).text
     }
+
+    /// The words of document 01's file.
+    const WORKED: [u32; 14] = [
+        1,
+        7,
+        0x50,
+        4,
+        5,
+        1,
+        2,
+        0x12,
+        0x34,
+        1,
+        0x0202_00A0,
+        3,
+        3,
+        0x21,
+    ];
 
     #[test]
     fn the_run_of_document_01() {
-        let words = [
-            1,
-            7,
-            0x50,
-            4,
-            5,
-            1,
-            2,
-            0x12,
-            0x34,
-            1,
-            0x0202_00A0,
-            3,
-            3,
-            0x21,
-        ];
-        assert_eq!(printed(&words), DOCUMENT_01);
+        assert_eq!(printed(&WORKED), DOCUMENT_01);
+    }
+
+    #[test]
+    fn a_page_for_each_call() {
+        let twice = [
+            &[2][..],
+            &WORKED[1..5],
+            &WORKED[1..5],
+            &WORKED[5..],
+            &WORKED[5..],
+        ]
+        .concat();
+        let text = of(&bytes(&twice), Accesses::Page).text;
+        let page = page::print::page(&bytes(&page::print::DOCUMENT_01), usize::MAX).unwrap();
+        let once = format!("7 done 0 5 9\n{page}b 1234\n");
+        assert_eq!(text, once.repeat(2));
+        assert_eq!(of(&[], Accesses::Page).text, "file 14\n");
     }
 
     #[test]
     fn no_calls_and_no_file() {
         assert_eq!(printed(&[0]), "");
         assert_eq!(printed(&[]), "file 14\n");
-        assert!(of(&[]).calls.is_none());
+        assert!(of(&[], Accesses::Lines).calls.is_none());
     }
 
     #[test]

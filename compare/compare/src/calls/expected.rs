@@ -9,6 +9,7 @@ pub fn of(case: &Case) -> String {
 
 pub fn text(run: &Run) -> String {
     let mut text = String::new();
+    run.write_outcome(&mut text);
     run.write_accesses(&mut text);
     run.write_buffer(&mut text);
     text

@@ -64,11 +64,15 @@ impl Run {
         self.word == "refused"
     }
 
-    /// The line of the call and those of its accesses.
-    pub fn write_accesses(&self, text: &mut String) {
+    /// The line of the call.
+    pub fn write_outcome(&self, text: &mut String) {
         let accesses = self.log.len();
         let (call, word, value, used) = (self.call, self.word, self.value, self.used);
         writeln!(text, "{call} {word} {value} {used} {accesses}").unwrap();
+    }
+
+    /// The lines of its accesses.
+    pub fn write_accesses(&self, text: &mut String) {
         for &[code, value] in &self.log {
             let kind = if code < 0x100 { 'r' } else { 'w' };
             writeln!(text, "{kind} {:02X} {value:08X}", code & 0xFF).unwrap();

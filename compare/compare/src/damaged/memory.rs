@@ -35,6 +35,7 @@ unsafe impl Numbers for Description {}
 unsafe impl Numbers for Left {}
 unsafe impl Numbers for Fields {}
 unsafe impl Numbers for u32 {}
+unsafe impl Numbers for u64 {}
 
 /// Where one of the slices of a call is lent.
 pub enum Memory {

@@ -1,0 +1,28 @@
+-- `page_main::main` meets its contract. The measure is the arguments that are left. Assumes nothing.
+use borrow.Author.Needs.{needs}
+use Prim.Native.Nat.{_-_}
+use native.Mathlib.Omega.{arith}
+use Rattle.page_main.proofs.main.Statement.{statement}
+use Rattle.page_main.proofs.main.Tie as tie
+
+abbrev Inv-loop : tie.InvT-loop
+Inv-loop count i₀ i = Unit {0}
+
+abbrev μ-loop : tie.MeasureT-loop
+μ-loop count i₀ i = count - i
+
+pub main-spec : {M : Type 1} → statement M
+main-spec =
+    tie.close
+    (tie.spec
+    Inv-loop
+    μ-loop
+    (λ c κs. search needs)
+    (λ c. search needs)
+    (λ c κs. search needs)
+    (λ c. tt)
+    (λ c κs. search needs)
+    (λ c. search needs)
+    (λ c. omega arith)
+    (λ c. tt)
+    (λ c. tt))
