@@ -2,7 +2,7 @@
 ghost use mathlib.Core.Path.{_≡_};
 ghost use Prim.Native.Nat.{_≤_, _<_};
 ghost use lib.ListN.{length};
-ghost use Rattle.numerals.specs.Numbers.{digitOf, numberOf, isHex, parsedOf, hexDigitOf, spelledOf, hexOf, significantOf};
+ghost use Rattle.numerals.specs.Numbers.{digitOf, numberOf, isHex, parsedOf, hexDigitOf, spelledOf, hexOf, significantOf, decimalOf};
 ghost use Rattle.numerals.specs.Words.{isBlank, blankIs, dropWhile, firstWord, afterWord};
 
 pub enum Parsed {
@@ -68,7 +68,7 @@ pub fn hex(n: u32) -> [u8; 8]
     ensures { λ r. ⌜ r ≡ hexOf 8 n ⌝ }
 {
     let mut text = [0u8; 8];
-    spell(n as u64, 16, &mut text);
+    spell(n, 16, &mut text);
     text
 }
 
@@ -77,21 +77,12 @@ pub fn hex_byte(b: u8) -> [u8; 2]
     ensures { λ r. ⌜ r ≡ hexOf 2 b ⌝ }
 {
     let mut text = [0u8; 2];
-    spell(b as u64, 16, &mut text);
-    text
-}
-
-// `n` in twenty decimal digits, which 64 bits fit into; `significant` leaves the zeros in front out.
-pub fn digits(n: u64) -> [u8; 20]
-    ensures { λ r. ⌜ r ≡ spelledOf 10 20 n ⌝ }
-{
-    let mut text = [0u8; 20];
-    spell(n, 10, &mut text);
+    spell(b as u32, 16, &mut text);
     text
 }
 
 // The last six decimal digits of `n`, zeros in front.
-pub fn last_six(n: u64) -> [u8; 6]
+pub fn last_six(n: u32) -> [u8; 6]
     ensures { λ r. ⌜ r ≡ spelledOf 10 6 n ⌝ }
 {
     let mut text = [0u8; 6];
@@ -99,8 +90,27 @@ pub fn last_six(n: u64) -> [u8; 6]
     text
 }
 
-// Fills `text` with the last digits of `n` in a base.
-fn spell(n: u64, base: u64, text: &mut [u8])
+// `n` in ten decimal digits, which 32 bits fit into; `significant` leaves the zeros in front out.
+pub fn ten_digits(n: u32) -> [u8; 10]
+    ensures { λ r. ⌜ significantOf r ≡ decimalOf n ⌝ }
+{
+    let mut digits = [0u8; 10];
+    spell(n, 10, &mut digits);
+    digits
+}
+
+// `n` in twenty decimal digits, which 64 bits fit into.
+pub fn digits(n: u64) -> [u8; 20]
+    ensures { λ r. ⌜ r ≡ spelledOf 10 20 n ⌝ }
+{
+    let mut text = [0u8; 20];
+    spell_wide(n, &mut text);
+    text
+}
+
+// Fills `text` with the last digits of `n` in a base. It divides numbers of 32 bits: those of 64 would take a function of a compiler's
+// library on the chip.
+fn spell(n: u32, base: u32, text: &mut [u8])
     requires { ⌜ (1 ≤ base) × (base ≤ 16) ⌝ }
     ensures { λ _. ⌜ now (text .exit) ≡ spelledOf base (length (now (text .entry))) n ⌝ }
 {
@@ -113,7 +123,20 @@ fn spell(n: u64, base: u64, text: &mut [u8])
     }
 }
 
-fn hex_digit(d: u64) -> u8
+// Fills `text` with the last decimal digits of `n`.
+fn spell_wide(n: u64, text: &mut [u8])
+    ensures { λ _. ⌜ now (text .exit) ≡ spelledOf 10 (length (now (text .entry))) n ⌝ }
+{
+    let mut rest = n;
+    let mut i = text.len();
+    while i > 0 {
+        i -= 1;
+        text[i] = hex_digit((rest % 10) as u32);
+        rest /= 10;
+    }
+}
+
+fn hex_digit(d: u32) -> u8
     requires { ⌜ d < 16 ⌝ }
     ensures { λ r. ⌜ r ≡ hexDigitOf d ⌝ }
 {

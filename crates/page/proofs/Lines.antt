@@ -19,7 +19,8 @@ use Rattle.page.specs.Tokens.{Token, tokensOf}
 use Rattle.page.specs.declared.Access.{Access}
 use Rattle.page.specs.declared.Access.the-variants.{Read, Write, Unknown}
 use Rattle.page.proofs.Sizes.{total, Each, Sized, register-sized}
-use Rattle.page.proofs.Texts.{length-spelled, length-filled, printable, printed, print-append, print-spaces, print-filled, print-spelled}
+use Rattle.numerals.proofs.Spelling.{length-spelled}
+use Rattle.page.proofs.Texts.{length-filled, printable, printed, print-append, print-spaces, print-filled, print-spelled}
 
 -- ---- the head has 29 characters
 pub record Name (name : List ℕ) (n : ℕ) : Type 0 where

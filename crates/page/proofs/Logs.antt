@@ -1,13 +1,14 @@
 -- The loops over a log, of which `rest` is still to come and its first entry is entry n. Assumes nothing.
 use Prim.Native.Nat.{ℕ, suc, _+_, _-_, _*_, _/_, _%_, _≤_, _<_}
 use native.Mathlib.Omega.{arith}
-use mathlib.Core.Path.{_≡_, refl, sym, ap, _∙_}
+use mathlib.Core.Path.{_≡_, refl, sym, ap, ap₂, _∙_}
 use mathlib.Core.Bool.{Bool, true, false, cond}
 use mathlib.Core.List.{List, [], _∷_, _++_}
 use lib.Dec.{eqb, leb}
 use lib.ListN.{length, getD, take, drop, length-append}
 use lib.Seq.{take-all}
 use borrow.Author.Tests.{le-leb, lt-leb, eq-eqb, ne-eqb, leb-true}
+use Rattle.numerals.proofs.Spelling.{same-digits}
 use Rattle.registers.specs.declared.Register.{Register}
 use Rattle.window.specs.Window.{Shown, laid, startOf, emitOf, windowOf}
 use Rattle.window.specs.Window as window
@@ -15,7 +16,7 @@ use Rattle.window.specs.declared.Cursor.{Cursor}
 use Rattle.window.proofs.Laid.{emit-append, emit-none, windowed}
 use Rattle.words.specs.Words.{wordsIn, wordAt}
 use Rattle.words.proofs.Turns as turns
-use Rattle.page.specs.Page.{accessOf, entryLines, textOf, entriesText, pageOf, isKnown, faultFrom, faultOf, isSound, left, laidOut, pageIn, linesOf}
+use Rattle.page.specs.Page.{accessOf, headOf, accessLines, entryLines, textOf, entriesText, pageOf, isKnown, faultFrom, faultOf, isSound, left, laidOut, pageIn, linesOf}
 use Rattle.page.specs.Put.{sizeIn}
 use Rattle.page.specs.declared.Access.{Access}
 use Rattle.page.specs.declared.Access.the-variants.{Read, Write, Unknown}
@@ -39,13 +40,37 @@ first-entry n [] h = absurd (omega arith)
 first-entry n (w ∷ []) h = absurd (omega arith)
 first-entry n (w ∷ v ∷ ws) h = entries n w v ws
 
+-- ---- entries with numbers that end in the same six digits are the same
+same-number : (m n : ℕ) (ws : List ℕ) → m % 1000000 ≡ n % 1000000 → entriesText m ws ≡ entriesText n ws
+unfolding linesOf entryLines headOf
+same-number m n [] e = refl
+same-number m n (w ∷ []) e = refl
+same-number m n (code ∷ value ∷ ws) e =
+    entries m code value ws
+    ∙ ap₂ (λ (s t : List ℕ). s ++ t) (go (accessOf code)) (same-number (m + 1) (n + 1) ws (omega arith))
+    ∙ sym (entries n code value ws)
+  where
+    go : (a : Access) → textOf (accessLines m a value) ≡ textOf (accessLines n a value)
+    go (Read r) = rw (same-digits 6 m n e)
+    go (Write r) = rw (same-digits 6 m n e)
+    go Unknown = refl
+
+pub from-six : (m n : ℕ) (ws : List ℕ) → m ≡ n % 1000000 → entriesText m ws ≡ entriesText n ws
+from-six m n ws e = same-number m n ws (omega arith)
+
+pub same-start : (m n : ℕ) (ws : List ℕ) (L : window.Laid) → m ≡ n % 1000000 → emitOf (entriesText m ws) L ≡ emitOf (entriesText n ws) L
+same-start m n ws L e = ap (λ (t : List ℕ). emitOf t L) (from-six m n ws e)
+
+pub same-size : (m n room : ℕ) (ws : List ℕ) → m ≡ n % 1000000 → length (entriesText m ws) + room ≡ length (entriesText n ws) + room
+same-size m n room ws e = ap (λ (t : List ℕ). length t + room) (from-six m n ws e)
+
 module _ (n : ℕ) (rest all : List ℕ) (K L : window.Laid) (done : emitOf (entriesText n rest) L ≡ emitOf all K) where
   pub entries-put : length rest ≤ 1 → L ≡ emitOf all K
   entries-put h = rw (no-entry n rest h, emit-none) at done
 
   pub next-entry : 1 < length rest → (M : window.Laid) → M ≡ emitOf (textOf (entryLines n (getD rest 0 0) (getD rest 1 0))) L →
-      emitOf (entriesText (n + 1) (take (length rest - 2) (drop 2 rest))) M ≡ emitOf all K
-  next-entry h M e = rw (e, turns.rest rest 2) (rw (first-entry n rest h, emit-append) at done)
+      (m : ℕ) → m ≡ (n + 1) % 1000000 → emitOf (entriesText m (take (length rest - 2) (drop 2 rest))) M ≡ emitOf all K
+  next-entry h M e m f = rw (from-six m (n + 1) _ f, e, turns.rest rest 2) (rw (first-entry n rest h, emit-append) at done)
 
 -- ---- a log in bytes, whose entries are its words, two by two
 two-words : (b : List ℕ) → 8 ≤ length b → wordsIn b ≡ wordAt b 0 ∷ wordAt b 1 ∷ wordsIn (drop 8 b)
@@ -68,8 +93,9 @@ module _ (n : ℕ) (rest all : List ℕ) (K L : window.Laid) (done : emitOf (ent
   log-put h = rw (no-bytes n rest h, emit-none) at done
 
   pub next-put : 8 ≤ length rest → (code value : ℕ) → code ≡ wordAt rest 0 → value ≡ wordAt rest 1 → (M : window.Laid) →
-      M ≡ emitOf (textOf (entryLines n code value)) L → emitOf (entriesText (n + 1) (wordsIn (take (length rest - 8) (drop 8 rest)))) M ≡ emitOf all K
-  next-put h code value p q M e = rw (e, p, q, turns.rest rest 8) (rw (first-bytes n rest h, emit-append) at done)
+      M ≡ emitOf (textOf (entryLines n code value)) L → (m : ℕ) → m ≡ (n + 1) % 1000000 →
+      emitOf (entriesText m (wordsIn (take (length rest - 8) (drop 8 rest)))) M ≡ emitOf all K
+  next-put h code value p q M e m f = rw (from-six m (n + 1) _ f, e, p, q, turns.rest rest 8) (rw (first-bytes n rest h, emit-append) at done)
 
 -- ---- its size, of which `left` is left of the room
 module _ (n left room : ℕ) (rest text : List ℕ) (sum : length (entriesText n (wordsIn rest)) + room ≡ length text + left) where
@@ -86,8 +112,9 @@ module _ (n left room : ℕ) (rest text : List ℕ) (sum : length (entriesText n
     pub no-room : left < size → Over ≡ sizeIn room text
     no-room l = rw (lt-leb (length text) room (omega (arith, parts)))
 
-    pub next-size : size ≤ left → length (entriesText (n + 1) (wordsIn (take (length rest - 8) (drop 8 rest)))) + room ≡ length text + (left - size)
-    next-size l = rw (turns.rest rest 8) (omega (arith, parts))
+    pub next-size : size ≤ left → (m : ℕ) → m ≡ (n + 1) % 1000000 →
+        length (entriesText m (wordsIn (take (length rest - 8) (drop 8 rest)))) + room ≡ length text + (left - size)
+    next-size l m f = rw (from-six m (n + 1) _ f, turns.rest rest 8) (omega (arith, parts))
 
 -- ---- what is wrong with it
 module _ (code : ℕ) (a : Access) (e : a ≡ accessOf code) where

@@ -9,6 +9,7 @@ use lib.Dec.{eqb, leb}
 use lib.ListN.{length, length-append}
 use borrow.Author.Tests.{le-leb, lt-leb, le-ltb, lt-ltb, eq-eqb, ne-eqb}
 use Rattle.fields.specs.Field.{place, bit, getOf, flagOf}
+use Rattle.numerals.proofs.Spelling.{length-spelled}
 use Rattle.numerals.specs.Numbers.{parsedOf, spelledOf, significantOf, decimalOf}
 use Rattle.numerals.specs.Words.{firstWord, afterWord}
 use Rattle.numerals.specs.declared.Parsed.{Parsed}
@@ -21,7 +22,6 @@ use Rattle.page.specs.Page.{spaces}
 use Rattle.page.specs.Put.{Put, asPut, ending, roomPut, addPut, tokenPut, tokensPut, below, bitsPut, flagPut, numberPut, Labelled, labelled, numberIn, fieldsIn, labelsOf, fieldPut, fieldsPut}
 use Rattle.page.specs.Tokens.{Token, flagTokens, bitTokens}
 use Rattle.page.specs.declared.line.Line.{Line}
-use Rattle.page.proofs.Texts.{length-spelled}
 
 abbrev put : Laid → ℕ → ℕ → Put
 put text column top = record { text = text; column = column; top = top }
@@ -73,7 +73,7 @@ short (d ∷ e ∷ t) = go (eqb d 48) (short (e ∷ t))
     go true h = omega arith
     go false h = omega arith
 
-pub digits-fit : (d g : List ℕ) (n : ℕ) → d ≡ significantOf g → g ≡ spelledOf 10 20 n → length d ≤ 20
+pub digits-fit : (d g : List ℕ) (n : ℕ) → d ≡ significantOf g → significantOf g ≡ decimalOf n → length d ≤ 20
 digits-fit d g n e f = rw (e, f) (omega (arith, short (spelledOf 10 20 n), length-spelled 10 20 n))
 
 -- ---- the bits of no field, those from bit `top` on being put
@@ -82,7 +82,7 @@ module _ (value low top : ℕ) (s S : Put) (done : tokensPut (bitTokens value lo
   unfolding tokensPut bitTokens
   bits-shown h = (let e : top - low ≡ 0 = omega arith in rw e at done)
 
-  pub next-bit : low < top → (d g : List ℕ) → d ≡ significantOf g → g ≡ spelledOf 10 20 (top - 1) → (N : Put) →
+  pub next-bit : low < top → (d g : List ℕ) → d ≡ significantOf g → significantOf g ≡ decimalOf (top - 1) → (N : Put) →
       N ≡ tokensPut (flagTokens value (codes "bit" ++ d) (bit (top - 1))) s → tokensPut (bitTokens value low (top - 1 - low)) N ≡ S
   unfolding bitTokens
   next-bit h d g e f N m =
@@ -102,7 +102,7 @@ module _ (l m : Line) (top : ℕ) (lowered : m ≡ record { place = l .place; co
     flag-put name e f = rw (lowered, ← e) (ap (below top) (rw append-nil at f))
 
     pub number-put : (label d g : List ℕ) (width n : ℕ) → asPut k before ≡ bitsPut value (top + width) s →
-        d ≡ significantOf g → g ≡ spelledOf 10 20 n → n ≡ getOf value (place top width) →
+        d ≡ significantOf g → significantOf g ≡ decimalOf n → n ≡ getOf value (place top width) →
         asPut l after ≡ tokenPut (label ++ d) (asPut k before) → asPut m after ≡ numberPut value label top width s
     unfolding numberPut
     number-put label d g width n e p q r f = rw (lowered, ← e, ← r, ← q, ← p) (ap (below top) f)

@@ -9,7 +9,7 @@ use lib.Dec.{ltb}
 use lib.ListN.{length}
 use borrow.Author.Tests.{ltb-true, ltb-false}
 use Rattle.numerals.specs.Numbers.{hexDigitOf, spelledOf}
-use Rattle.page.proofs.Texts.{length-spelled}
+use Rattle.numerals.proofs.Spelling.{length-spelled}
 
 -- texts of the same length at the start of equal texts are equal, and so is what follows them
 pub same-parts : (a b c d : List ℕ) → length a ≡ length b → a ++ c ≡ b ++ d → (a ≡ b) × (c ≡ d)

@@ -15,11 +15,6 @@ use Rattle.page.specs.Page.{spaces, filled}
 use Rattle.page.specs.Promises.{Printable}
 
 -- ---- how long they are
-pub length-spelled : (base k n : ℕ) → length (spelledOf base k n) ≡ k
-unfolding spelledOf
-length-spelled base zero n = refl
-length-spelled base (suc k) n = simp length-append (omega (arith, length-spelled base k (n / base)))
-
 pub length-filled : (n : ℕ) (t : List ℕ) → length t ≤ n → length (filled n t) ≡ n
 length-filled n t h = simp (length-append, length-replicate) (omega arith)
 

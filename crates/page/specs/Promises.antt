@@ -44,7 +44,6 @@ pub record PagePromises : Type 0 where
   pub only-then : (log buffer : List ℕ) (n : ℕ) → pageIn log buffer .page ≡ Laid n →
       (length log % 8 ≡ 0) × EachKnown (wordsIn log) × (length (pageOf (wordsIn log)) ≤ length buffer)
   pub unchanged : (log buffer : List ℕ) → pageIn log buffer .page ≡ Refused → pageIn log buffer .buffer ≡ buffer
-
   -- two logs with equal pages are the same log
   pub same-log : (log log′ : List ℕ) → Below (2 ^ 32) log → Below (2 ^ 32) log′ → EachKnown log → EachKnown log′ → pageOf log ≡ pageOf log′ → log ≡ log′
   -- so are two logs in bytes

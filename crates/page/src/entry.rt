@@ -42,7 +42,7 @@ pub fn decoded(code: u32) -> Access
 }
 
 // The entry's number, from column 1 on.
-fn put_number(p: Cursor, n: u64, out: &mut [u8]) -> Cursor
+fn put_number(p: Cursor, n: u32, out: &mut [u8]) -> Cursor
     ensures { λ r. ⌜ laid r (now (out .exit)) ≡ emitOf (spelledOf 10 6 n ++ spaces 1) (laid p (now (out .entry))) ⌝ }
 {
     let digits = numerals::last_six(n);
@@ -79,7 +79,7 @@ fn put_name(p: Cursor, r: Register, out: &mut [u8]) -> Cursor
 }
 
 // The columns 1 to 29.
-fn put_head(p: Cursor, n: u64, write: bool, r: Register, value: u32, out: &mut [u8]) -> Cursor
+fn put_head(p: Cursor, n: u32, write: bool, r: Register, value: u32, out: &mut [u8]) -> Cursor
     ensures { λ q. ⌜ laid q (now (out .exit)) ≡ emitOf (headOf n (doneOf write) r value) (laid p (now (out .entry))) ⌝ }
 {
     let p = put_number(p, n, out);
@@ -89,7 +89,7 @@ fn put_head(p: Cursor, n: u64, write: bool, r: Register, value: u32, out: &mut [
     window::put_all(p, &digits, out)
 }
 
-fn put_lines(p: Cursor, n: u64, write: bool, r: Register, value: u32, out: &mut [u8]) -> Cursor
+fn put_lines(p: Cursor, n: u32, write: bool, r: Register, value: u32, out: &mut [u8]) -> Cursor
     ensures { λ q. ⌜ laid q (now (out .exit)) ≡ emitOf (textOf (registerLines n (doneOf write) r value)) (laid p (now (out .entry))) ⌝ }
 {
     let place = put_head(p, n, write, r, value, out);
@@ -103,7 +103,7 @@ fn put_lines(p: Cursor, n: u64, write: bool, r: Register, value: u32, out: &mut 
     end_line(end, last.column, out)
 }
 
-fn put_access(p: Cursor, n: u64, a: Access, value: u32, out: &mut [u8]) -> Cursor
+fn put_access(p: Cursor, n: u32, a: Access, value: u32, out: &mut [u8]) -> Cursor
     ensures { λ q. ⌜ laid q (now (out .exit)) ≡ emitOf (textOf (accessLines n a value)) (laid p (now (out .entry))) ⌝ }
 {
     match a {
@@ -114,14 +114,14 @@ fn put_access(p: Cursor, n: u64, a: Access, value: u32, out: &mut [u8]) -> Curso
 }
 
 // Entry n. This is the one walk over an entry: its size is found by it too.
-pub fn put_entry(p: Cursor, n: u64, code: u32, value: u32, out: &mut [u8]) -> Cursor
+pub fn put_entry(p: Cursor, n: u32, code: u32, value: u32, out: &mut [u8]) -> Cursor
     ensures { λ q. ⌜ laid q (now (out .exit)) ≡ emitOf (textOf (entryLines n code value)) (laid p (now (out .entry))) ⌝ }
 {
     put_access(p, n, decoded(code), value, out)
 }
 
 // How many bytes the lines of an entry have: they are put before a window that they do not reach.
-pub fn size(n: u64, code: u32, value: u32) -> usize
+pub fn size(n: u32, code: u32, value: u32) -> usize
     ensures { λ r. ⌜ r ≡ length (textOf (entryLines n code value)) ⌝ }
     ensures { λ r. ⌜ r ≤ 405 ⌝ }
 {

@@ -1,8 +1,6 @@
 // The service page of a log: each entry on lines of 80 columns, with the names of its register and of its fields.
 ghost use mathlib.Core.Path.{_≡_};
-ghost use mathlib.Core.Bool.{cond};
-ghost use lib.Dec.{leb};
-ghost use lib.ListN.{length};
+ghost use Prim.Native.Nat.{_%_, _<_};
 ghost use Rattle.page.specs.Page.{accessOf, isKnown, entriesText, pageOf, faultFrom, faultOf, isSound, left, pageIn, pageRefusal, pageLength};
 ghost use Rattle.page.specs.Put.{sizeIn};
 ghost use Rattle.window.specs.Window.{laid, emitOf};
@@ -62,17 +60,24 @@ enum Size {
     Over,
 }
 
+// Of an entry's number its last six digits are shown, and no more of it is kept: so it has no end.
+fn last_digits(n: u32) -> u32
+    ensures { λ r. ⌜ (r ≡ n % 1000000) × (r < 1000000) ⌝ }
+{
+    n % 1_000_000
+}
+
 // Puts the lines of a log's entries, the first with the number `first`. One whose code is no register's has no line.
 pub fn put_entries(p: Cursor, first: u32, log: &[u32], out: &mut [u8]) -> Cursor
     ensures { λ r. ⌜ laid r (now (out .exit)) ≡ emitOf (entriesText first (now (log .entry))) (laid p (now (out .entry))) ⌝ }
 {
     let mut q = p;
-    let mut n = first as u64;
+    let mut n = last_digits(first);
     let mut rest = log;
     while rest.len() > 1 {
         q = entry::put_entry(q, n, rest[0], rest[1], out);
         rest = &rest[2..];
-        n += 1;
+        n = last_digits(n + 1);
     }
     q
 }
@@ -82,12 +87,12 @@ fn put_log(p: Cursor, log: &[u8], out: &mut [u8]) -> Cursor
     ensures { λ r. ⌜ laid r (now (out .exit)) ≡ emitOf (pageOf (wordsIn (now (log .entry)))) (laid p (now (out .entry))) ⌝ }
 {
     let mut q = p;
-    let mut n: u64 = 1;
+    let mut n = last_digits(1);
     let mut rest = log;
     while 8 <= rest.len() {
         q = entry::put_entry(q, n, words::get(rest, 0), words::get(rest, 1), out);
         rest = &rest[8..];
-        n += 1;
+        n = last_digits(n + 1);
     }
     q
 }
@@ -136,7 +141,7 @@ fn measured(log: &[u8], room: usize) -> Size
     ensures { λ r. ⌜ r ≡ sizeIn room (pageOf (wordsIn (now (log .entry)))) ⌝ }
 {
     let mut left = room;
-    let mut n: u64 = 1;
+    let mut n = last_digits(1);
     let mut rest = log;
     while 8 <= rest.len() {
         let size = entry::size(n, words::get(rest, 0), words::get(rest, 1));
@@ -145,7 +150,7 @@ fn measured(log: &[u8], room: usize) -> Size
         }
         left -= size;
         rest = &rest[8..];
-        n += 1;
+        n = last_digits(n + 1);
     }
     Size::Fits(room - left)
 }

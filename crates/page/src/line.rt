@@ -96,7 +96,7 @@ pub fn put_bits(l: Line, value: u32, low: u32, out: &mut [u8]) -> Line
     let mut top = l.top;
     while low < top {
         top -= 1;
-        let digits = numerals::digits(top as u64);
+        let digits = numerals::ten_digits(top);
         line = put_if(
             line,
             value,
@@ -127,7 +127,7 @@ pub fn put_number(l: Line, value: u32, at: u32, width: u32, label: &[u8], out: &
     ensures { λ r. ⌜ r .column ≤ 80 ⌝ }
 {
     let l = put_bits(l, value, at + width, out);
-    let digits = numerals::digits(fields::get(value, at, width) as u64);
+    let digits = numerals::ten_digits(fields::get(value, at, width));
     let l = put_token(l, label, numerals::significant(&digits), out);
     shown_to(l, at)
 }

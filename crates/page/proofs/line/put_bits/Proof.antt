@@ -1,6 +1,6 @@
 -- `page::line::put_bits` meets its contract. The invariant: the bits that are left, put where the text stands, are the whole. Assumes nothing.
 use borrow.Author.Needs.{needs}
-use Prim.Native.Nat.{_-_, _≤_, _<_}
+use Prim.Native.Nat.{_-_, _≤_}
 use mathlib.Core.Path.{_≡_, refl, ap, _∙_}
 use native.Mathlib.Omega.{arith}
 use lib.ListN.{length}
@@ -12,7 +12,7 @@ use Rattle.page.proofs.line.put_bits.Statement.{statement}
 use Rattle.page.proofs.line.put_bits.Tie as tie
 
 abbrev Inv-loop : tie.InvT-loop
-Inv-loop value low out₀ line₀ top₀ t8 out line top = (length out ≡ length out₀) × (line .column ≤ 80) × (top < 4294967296) × (tokensPut (bitTokens value low (top - low)) (asPut line out) ≡ tokensPut (bitTokens value low (top₀ - low)) (asPut line₀ out₀))
+Inv-loop value low out₀ line₀ top₀ t8 out line top = (length out ≡ length out₀) × (line .column ≤ 80) × (tokensPut (bitTokens value low (top - low)) (asPut line out) ≡ tokensPut (bitTokens value low (top₀ - low)) (asPut line₀ out₀))
 
 abbrev μ-loop : tie.MeasureT-loop
 μ-loop value low out₀ line₀ top₀ t8 out line top = top
@@ -24,8 +24,7 @@ put-bits-spec =
     (tie.spec
     Inv-loop
     μ-loop
-    (λ c. (refl, search needs, search needs, refl))
-    (λ c. search needs)
+    (λ c. (refl, search needs, refl))
     (λ c. search needs)
     (λ c κs. search needs)
     (λ c. search needs)
@@ -39,6 +38,6 @@ put-bits-spec =
     (λ c.
     let i = c .before .before .loop in
     let a = c .before .before .before .before .args in (
-      ap (λ (l : Line). asPut l (i .out)) (c .shown-to .ensures) ∙ ap (below (a .low)) (bits-shown (a .value) (a .low) (i .top) (asPut (i .line) (i .out)) _ (i .inv .3) (omega arith)),
+      ap (λ (l : Line). asPut l (i .out)) (c .shown-to .ensures) ∙ ap (below (a .low)) (bits-shown (a .value) (a .low) (i .top) (asPut (i .line) (i .out)) _ (i .inv .2) (omega arith)),
       rw (c .shown-to .ensures) (i .inv .1),
     )))
