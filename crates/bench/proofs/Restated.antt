@@ -28,6 +28,7 @@ use Rattle.calls.specs.declared.Report.the-variants.{Refused}
 use Rattle.calls.specs.declared.Verdict.{Verdict}
 use Rattle.calls.specs.declared.Verdict.the-variants.{Accepted, Refused as Rejected}
 use Rattle.drive.specs.Drive.{runFor}
+use Rattle.lines.specs.declared.Form.{Form}
 use Rattle.window.specs.Window.{Shown, windowOf}
 use Rattle.bench.specs.Text.{fileText, CallsWhole}
 use Rattle.bench.proofs.text as text
@@ -66,17 +67,20 @@ module _ (κs : Lfts 2) (a : borrow.Fn.World.ArgsD text.signature κs) (n : borr
   abbrev file : List ℕ
   file = a .0 .now
 
+  abbrev form : Form
+  form = a .1 .0
+
   abbrev from : ℕ
-  from = a .1 .0
+  from = a .1 .1 .0
 
   abbrev out : List ℕ
-  out = a .1 .1 .0 .now
+  out = a .1 .1 .1 .0 .now
 
   abbrev out′ : List ℕ
-  out′ = x .1 .1 .0 .now
+  out′ = x .1 .1 .1 .0 .now
 
   abbrev shown : List ℕ
-  shown = take (length out) (drop from (fileText file))
+  shown = take (length out) (drop from (fileText form file))
 
   count-is : n ≡ length shown
   unfolding windowOf
@@ -87,15 +91,15 @@ module _ (κs : Lfts 2) (a : borrow.Fn.World.ArgsD text.signature κs) (n : borr
   out-is = ap (λ (s : Shown). s .bytes) (contract .0)
 
   -- as many bytes as the slice holds and the text has from there on
-  pub count : n ≡ min (length out) (length (fileText file) - from)
-  count = omega (arith, count-is, length-take (length out) (drop from (fileText file)), length-drop from (fileText file))
+  pub count : n ≡ min (length out) (length (fileText form file) - from)
+  count = omega (arith, count-is, length-take (length out) (drop from (fileText form file)), length-drop from (fileText form file))
 
-  -- byte i of them is the text's byte from + i
-  pub text-bytes : (i : ℕ) → i < n → getD out′ i 0 ≡ getD (fileText file) (from + i) 0
+  -- byte i of them is byte from + i of the text, in the form asked for
+  pub text-bytes : (i : ℕ) → i < n → getD out′ i 0 ≡ getD (fileText form file) (from + i) 0
   text-bytes i h =
       let h′ : i < length shown = omega (arith, h, count-is) in
       ap (λ (l : List ℕ). getD l i 0) out-is ∙ List·getD-append shown (drop (length shown) out) 0 i h′
-      ∙ getD-take (length out) (drop from (fileText file)) i 0 (omega (arith, h, count)) ∙ getD-drop from (fileText file) i 0
+      ∙ getD-take (length out) (drop from (fileText form file)) i 0 (omega (arith, h, count)) ∙ getD-drop from (fileText form file) i 0
 
   -- the slice's other bytes are as they were
   pub other-bytes : (i : ℕ) → n ≤ i → getD out′ i 0 ≡ getD out i 0
@@ -112,7 +116,7 @@ module _ (κs : Lfts 2) (a : borrow.Fn.World.ArgsD text.signature κs) (n : borr
         ap length out-is,
         length-append shown (drop (length shown) out),
         length-drop (length shown) out,
-        length-take (length out) (drop from (fileText file)),
+        length-take (length out) (drop from (fileText form file)),
       )
 
   -- ---- The runs that the text of a right file shows are whole: run k of the table, whose row and body come first in these

@@ -14,8 +14,9 @@ use Rattle.calls.specs.declared.Report.{Report}
 use Rattle.calls.specs.Joined.{Reached, reachedBy}
 use Rattle.drive.specs.Drive.{asDriven, inLines, runFor}
 use Rattle.drive.specs.declared.Driven.{Driven}
-use Rattle.lines.specs.Lines.{callLine, accessLines, bufferLine}
-use Rattle.window.proofs.Laid.{emit-append, emit-none, front}
+use Rattle.lines.specs.Lines.{callLine, logText, bufferLine}
+use Rattle.lines.specs.declared.Form.{Form}
+use Rattle.window.proofs.Laid.{emit-append, emit-none, then, front}
 use Rattle.window.specs.Window.{Laid, emitOf, asShown, windowOf}
 use Rattle.bench.specs.Text.{showsBuffer, bufferText, runText, toldBy, callText, runIn, rowText, callsText}
 use Rattle.bench.specs.declared.call.Told.{Told}
@@ -34,20 +35,17 @@ either t r x y L M e h m = rw (sym e ∙ h) m
 pub other : (t r : Bool) (x y : List ℕ) (L M : Laid) → r ≡ t → r ≡ false → M ≡ emitOf y L → M ≡ emitOf (cond t x y) L
 other t r x y L M e h m = rw (sym e ∙ h) m
 
-pub then : (t u : List ℕ) (K L M : Laid) → L ≡ emitOf t K → M ≡ emitOf u L → M ≡ emitOf (t ++ u) K
-then t u K L M e f = f ∙ ap (emitOf u) e ∙ sym (emit-append t u K)
-
 -- what a driven call tells
-pub told : (t : Driven) (b out : List ℕ) (R : Run) (L : Laid) → asDriven t b out ≡ reachedBy inLines R L →
+pub told : (form : Form) (t : Driven) (b out : List ℕ) (R : Run) (L : Laid) → asDriven t b out ≡ reachedBy (inLines form) R L →
     record { report = t .advanced .report; used = t .advanced .used; accesses = t .advanced .written } ≡ toldBy R
-told t b out R L e =
+told form t b out R L e =
     ap (λ (F : Reached Laid). record { report = F .advanced .report; used = F .advanced .used; accesses = F .advanced .written }) e
 
 -- and shows: its accesses, and then its buffer
-pub shown : (n : ℕ) (t : Driven) (b out : List ℕ) (R : Run) (K M : Laid) → asDriven t b out ≡ reachedBy inLines R K →
-    M ≡ emitOf (cond (showsBuffer n && not (isRefusal (t .advanced .report))) (bufferLine b) []) (asDriven t b out .out) → M ≡ emitOf (runText n R) K
-shown n t b out R K M e m =
-    then (accessLines (wordsOf (R .entries))) (bufferText n R) K (asDriven t b out .out) M (ap (λ (F : Reached Laid). F .out) e)
+pub shown : (form : Form) (n : ℕ) (t : Driven) (b out : List ℕ) (R : Run) (K M : Laid) → asDriven t b out ≡ reachedBy (inLines form) R K →
+    M ≡ emitOf (cond (showsBuffer n && not (isRefusal (t .advanced .report))) (bufferLine b) []) (asDriven t b out .out) → M ≡ emitOf (runText form n R) K
+shown form n t b out R K M e m =
+    then (logText form 1 (wordsOf (R .entries))) (bufferText n R) K (asDriven t b out .out) M (ap (λ (F : Reached Laid). F .out) e)
     (m ∙ rw (ap (λ (F : Reached Laid). F .advanced .report) e, ap (λ (F : Reached Laid). F .buffer) e))
 
 -- the buffer that a call is lent
@@ -55,31 +53,31 @@ pub lent : (t bytes : List ℕ) (n : ℕ) (bytes′ : List ℕ) → asShown n by
 lent t bytes n bytes′ e z = front t bytes n bytes′ e ∙ rw z
 
 -- a call: its line, and then what it shows
-pub called : (n a : ℕ) (head l : List ℕ) (like : ℕ) (d : Description) (ops : List ℕ) (T : Told) (K L M : Laid) →
+pub called : (form : Form) (n a : ℕ) (head l : List ℕ) (like : ℕ) (d : Description) (ops : List ℕ) (T : Told) (K L M : Laid) →
     like ≡ plain n → d ≡ headDescription n a head → ops ≡ operationsOf n head → T ≡ toldBy (runFor d ops (lentBuffer like a head) l) →
-    L ≡ emitOf (callLine n (T .report) (T .used) (T .accesses)) K → M ≡ emitOf (runText like (runFor d ops (lentBuffer like a head) l)) L →
-    M ≡ emitOf (callText n (runIn n a head l)) K
-called n a head l like d ops T K L M e f g t u v =
+    L ≡ emitOf (callLine n (T .report) (T .used) (T .accesses)) K → M ≡ emitOf (runText form like (runFor d ops (lentBuffer like a head) l)) L →
+    M ≡ emitOf (callText form n (runIn n a head l)) K
+called form n a head l like d ops T K L M e f g t u v =
     let R : Run = runIn n a head l in
     let t′ : T ≡ toldBy R = rw (e, f, g) at t in
-    then (callLine n (R .report) (R .used) (length (R .entries))) (runText (plain n) R) K L M
+    then (callLine n (R .report) (R .used) (length (R .entries))) (runText form (plain n) R) K L M
     (u ∙ ap (λ (S : Told). emitOf (callLine n (S .report) (S .used) (S .accesses)) K) t′) (rw (e, f, g) at v)
 
 -- the call of a row, from its words
-pub rowed : (rows bodies head rest l : List ℕ) (n a h k : ℕ) (K M : Laid) → n ≡ getD rows 0 0 → a ≡ getD rows 1 0 → h ≡ getD rows 2 0 →
-    k ≡ getD rows 3 0 → head ≡ take h bodies → rest ≡ drop h bodies → l ≡ take k rest → M ≡ emitOf (callText n (runIn n a head l)) K →
-    M ≡ emitOf (rowText rows bodies) K
-rowed rows bodies head rest l n a h k K M e₀ e₁ e₂ e₃ e₄ e₅ e₆ m = rw (e₆, e₅, e₄, e₃, e₂, e₁, e₀) at m
+pub rowed : (form : Form) (rows bodies head rest l : List ℕ) (n a h k : ℕ) (K M : Laid) → n ≡ getD rows 0 0 → a ≡ getD rows 1 0 → h ≡ getD rows 2 0 →
+    k ≡ getD rows 3 0 → head ≡ take h bodies → rest ≡ drop h bodies → l ≡ take k rest → M ≡ emitOf (callText form n (runIn n a head l)) K →
+    M ≡ emitOf (rowText form rows bodies) K
+rowed form rows bodies head rest l n a h k K M e₀ e₁ e₂ e₃ e₄ e₅ e₆ m = rw (e₆, e₅, e₄, e₃, e₂, e₁, e₀) at m
 
 -- ---- n calls, of which k are left, the rows and bodies of those at hand
-module _ (n : ℕ) (rows bodies : List ℕ) (K : Laid) (k : ℕ) (table rest : List ℕ) (L : Laid)
-    (done : emitOf (callsText k table rest) L ≡ emitOf (callsText n rows bodies) K) where
-  pub calls-put : k ≤ 0 → L ≡ emitOf (callsText n rows bodies) K
+module _ (form : Form) (n : ℕ) (rows bodies : List ℕ) (K : Laid) (k : ℕ) (table rest : List ℕ) (L : Laid)
+    (done : emitOf (callsText form k table rest) L ≡ emitOf (callsText form n rows bodies) K) where
+  pub calls-put : k ≤ 0 → L ≡ emitOf (callsText form n rows bodies) K
   unfolding callsText
   calls-put h = (let e : k ≡ 0 = omega arith in rw (e, emit-none) at done)
 
   pub next-call : 0 < k → (M : Laid) →
-      M ≡ emitOf (rowText table rest) L →
-      emitOf (callsText (k - 1) (drop 4 table) (drop (bodySize table) rest)) M ≡ emitOf (callsText n rows bodies) K
+      M ≡ emitOf (rowText form table rest) L →
+      emitOf (callsText form (k - 1) (drop 4 table) (drop (bodySize table) rest)) M ≡ emitOf (callsText form n rows bodies) K
   unfolding callsText
   next-call h M m = rw m (let e : k ≡ suc (k - 1) = omega arith in rw (e, emit-append) at done)

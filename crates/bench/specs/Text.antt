@@ -1,4 +1,4 @@
--- What the bench prints for a file (document 01, "Bench"). Assumes nothing.
+-- What the bench prints for a file (document 01, "Bench"), its logs as access lines or as service pages (R-2). Assumes nothing.
 use Prim.Native.Nat.{ℕ, zero, suc, _*_}
 use mathlib.Core.Path.{_≡_}
 use mathlib.Core.Bool.{Bool, false, cond, not, _&&_, _||_}
@@ -14,50 +14,51 @@ use Rattle.benchfile.specs.Calls.{plain, headDescription, operationsOf, lentBuf
 use Rattle.benchfile.specs.File.{bodySize, sizeWrong, wordsWrong, fileWrong}
 use Rattle.words.specs.Words.{wordsIn}
 use Rattle.drive.specs.Drive.{runFor}
-use Rattle.lines.specs.Lines.{callLine, accessLines, bufferLine, refusalLine}
+use Rattle.lines.specs.Lines.{callLine, logText, bufferLine, refusalLine}
+use Rattle.lines.specs.declared.Form.{Form}
 use Rattle.bench.specs.declared.call.Told.{Told}
 
--- a call's accesses and then, for 7, 9 and 11 unless refused, its buffer; 25 and 27 are printed like 9 and 11
+-- a call's accesses in either form and then, for 7, 9 and 11 unless refused, its buffer; 25 and 27 are printed like 9 and 11
 unfoldable pub showsBuffer : ℕ → Bool
 showsBuffer n = eqb n 7 || (eqb n 9 || eqb n 11)
 
 abbrev pub bufferText : ℕ → Run → List ℕ
 bufferText n R = cond (showsBuffer n && not (isRefusal (R .report))) (bufferLine (R .buffer)) []
 
-abbrev pub runText : ℕ → Run → List ℕ
-runText n R = accessLines (wordsOf (R .entries)) ++ bufferText n R
+abbrev pub runText : Form → ℕ → Run → List ℕ
+runText form n R = logText form 1 (wordsOf (R .entries)) ++ bufferText n R
 
 -- what its line says of a run
 abbrev pub toldBy : Run → Told
 toldBy R = record { report = R .report; used = R .used; accesses = length (R .entries) }
 
 -- a call, with its line first
-abbrev pub callText : ℕ → Run → List ℕ
-callText n R = callLine n (R .report) (R .used) (length (R .entries)) ++ runText (plain n) R
+abbrev pub callText : Form → ℕ → Run → List ℕ
+callText form n R = callLine n (R .report) (R .used) (length (R .entries)) ++ runText form (plain n) R
 
 abbrev pub runIn : ℕ → ℕ → List ℕ → List ℕ → Run
 runIn n a head answers = runFor (headDescription n a head) (operationsOf n head) (lentBuffer (plain n) a head) answers
 
 -- the call of a table's first row, its body first in `bodies`, head before answers
-abbrev pub rowText : List ℕ → List ℕ → List ℕ
-rowText rows bodies =
+abbrev pub rowText : Form → List ℕ → List ℕ → List ℕ
+rowText form rows bodies =
     let head : ℕ = getD rows 2 0 in
-    callText (getD rows 0 0) (runIn (getD rows 0 0) (getD rows 1 0) (take head bodies) (take (getD rows 3 0) (drop head bodies)))
+    callText form (getD rows 0 0) (runIn (getD rows 0 0) (getD rows 1 0) (take head bodies) (take (getD rows 3 0) (drop head bodies)))
 
 -- n calls in turn
-unfoldable pub callsText : ℕ → List ℕ → List ℕ → List ℕ
-callsText zero rows bodies = []
-callsText (suc n) rows bodies = rowText rows bodies ++ callsText n (drop 4 rows) (drop (bodySize rows) bodies)
+unfoldable pub callsText : Form → ℕ → List ℕ → List ℕ → List ℕ
+callsText form zero rows bodies = []
+callsText form (suc n) rows bodies = rowText form rows bodies ++ callsText form n (drop 4 rows) (drop (bodySize rows) bodies)
 
 -- the words after the count n: the table of n rows, then the bodies
-abbrev pub tableText : ℕ → List ℕ → List ℕ
-tableText n words = callsText n words (drop (4 * n) words)
+abbrev pub tableText : Form → ℕ → List ℕ → List ℕ
+tableText form n words = callsText form n words (drop (4 * n) words)
 
-unfoldable pub wordsText : List ℕ → List ℕ
-wordsText words = cond (wordsWrong words) refusalLine (tableText (getD words 0 0) (drop 1 words))
+unfoldable pub wordsText : Form → List ℕ → List ℕ
+wordsText form words = cond (wordsWrong words) refusalLine (tableText form (getD words 0 0) (drop 1 words))
 
-unfoldable pub fileText : List ℕ → List ℕ
-fileText file = cond (sizeWrong (length file)) refusalLine (wordsText (wordsIn file))
+unfoldable pub fileText : Form → List ℕ → List ℕ
+fileText form file = cond (sizeWrong (length file)) refusalLine (wordsText form (wordsIn file))
 
 -- ---- Each run that is printed is the whole uncut run: its log did not fill.
 abbrev pub CallsWhole : ℕ → List ℕ → List ℕ → Type 0

@@ -12,6 +12,7 @@ ghost use Rattle.bench.specs.Text.{showsBuffer, runText, toldBy, callTex
 use calls::Description;
 use calls::Report;
 use kinds::report;
+use lines::Form;
 use window::Cursor;
 
 // What the line of a call says besides its number.
@@ -49,7 +50,15 @@ fn tell(d: Description, ops: &[u32], buffer: &mut [u8], answers: &[u32]) -> Told
     ensures { λ r. ⌜ r ≡ toldBy (runFor d (now (ops .entry)) (now (buffer .entry)) (now (answers .entry))) ⌝ }
 {
     let mut nowhere = [0u8; 1];
-    let t = drive::drive(Cursor::new(0), d, ops, buffer, answers, &mut nowhere);
+    let t = drive::drive(
+        Cursor::new(0),
+        Form::Lines,
+        d,
+        ops,
+        buffer,
+        answers,
+        &mut nowhere,
+    );
     let far = t.advanced;
     let report = far.report;
     Told {
@@ -62,6 +71,7 @@ fn tell(d: Description, ops: &[u32], buffer: &mut [u8], answers: &[u32]) -> Told
 // The call is driven again, now with its text, and the buffer that it leaves is shown.
 fn show(
     p: Cursor,
+    form: Form,
     n: u32,
     d: Description,
     ops: &[u32],
@@ -69,9 +79,9 @@ fn show(
     answers: &[u32],
     out: &mut [u8],
 ) -> Cursor
-    ensures { λ r. ⌜ laid r (now (out .exit)) ≡ emitOf (runText n (runFor d (now (ops .entry)) (now (buffer .entry)) (now (answers .entry)))) (laid p (now (out .entry))) ⌝ }
+    ensures { λ r. ⌜ laid r (now (out .exit)) ≡ emitOf (runText form n (runFor d (now (ops .entry)) (now (buffer .entry)) (now (answers .entry)))) (laid p (now (out .entry))) ⌝ }
 {
-    let t = drive::drive(p, d, ops, buffer, answers, out);
+    let t = drive::drive(p, form, d, ops, buffer, answers, out);
     let far = t.advanced;
     let report = far.report;
     let place = t.place;
@@ -89,6 +99,7 @@ fn tell_call(n: u32, a: u32, head: &[u32], d: Description, ops: &[u32], answers:
 
 fn show_call(
     p: Cursor,
+    form: Form,
     n: u32,
     a: u32,
     head: &[u32],
@@ -97,15 +108,23 @@ fn show_call(
     answers: &[u32],
     out: &mut [u8],
 ) -> Cursor
-    ensures { λ r. ⌜ laid r (now (out .exit)) ≡ emitOf (runText n (runFor d (now (ops .entry)) (lentBuffer n a (now (head .entry))) (now (answers .entry)))) (laid p (now (out .entry))) ⌝ }
+    ensures { λ r. ⌜ laid r (now (out .exit)) ≡ emitOf (runText form n (runFor d (now (ops .entry)) (lentBuffer n a (now (head .entry))) (now (answers .entry)))) (laid p (now (out .entry))) ⌝ }
 {
     let mut buffer = room();
     let size = benchfile::lay(n, a, head, &mut buffer);
-    show(p, n, d, ops, &mut buffer[..size], answers, out)
+    show(p, form, n, d, ops, &mut buffer[..size], answers, out)
 }
 
-pub fn put_call(p: Cursor, n: u32, a: u32, head: &[u32], answers: &[u32], out: &mut [u8]) -> Cursor
-    ensures { λ r. ⌜ laid r (now (out .exit)) ≡ emitOf (callText n (runIn n a (now (head .entry)) (now (answers .entry)))) (laid p (now (out .entry))) ⌝ }
+pub fn put_call(
+    p: Cursor,
+    form: Form,
+    n: u32,
+    a: u32,
+    head: &[u32],
+    answers: &[u32],
+    out: &mut [u8],
+) -> Cursor
+    ensures { λ r. ⌜ laid r (now (out .exit)) ≡ emitOf (callText form n (runIn n a (now (head .entry)) (now (answers .entry)))) (laid p (now (out .entry))) ⌝ }
 {
     let like = benchfile::plain(n);
     let d = benchfile::describe(n, a, head);
@@ -113,5 +132,5 @@ pub fn put_call(p: Cursor, n: u32, a: u32, head: &[u32], answers: &[u32], out: &
     let told = tell_call(like, a, head, d, ops, answers);
     let report = told.report;
     let q = lines::put_call(p, n, report, told.used, told.accesses, out);
-    show_call(q, like, a, head, d, ops, answers, out)
+    show_call(q, form, like, a, head, d, ops, answers, out)
 }

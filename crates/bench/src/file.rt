@@ -8,14 +8,15 @@ use benchfile::after;
 use benchfile::body_size;
 use benchfile::first;
 use benchfile::word;
+use lines::Form;
 use window::Cursor;
 
 // How many words a file may have at most.
 const WORDS: usize = 16384;
 
 // The call of a table's first row, its body first in `bodies`.
-fn put_row(p: Cursor, rows: &[u32], bodies: &[u32], out: &mut [u8]) -> Cursor
-    ensures { λ r. ⌜ laid r (now (out .exit)) ≡ emitOf (rowText (now (rows .entry)) (now (bodies .entry))) (laid p (now (out .entry))) ⌝ }
+fn put_row(p: Cursor, form: Form, rows: &[u32], bodies: &[u32], out: &mut [u8]) -> Cursor
+    ensures { λ r. ⌜ laid r (now (out .exit)) ≡ emitOf (rowText form (now (rows .entry)) (now (bodies .entry))) (laid p (now (out .entry))) ⌝ }
 {
     let n = word(rows, 0);
     let a = word(rows, 1);
@@ -23,6 +24,7 @@ fn put_row(p: Cursor, rows: &[u32], bodies: &[u32], out: &mut [u8]) -> Cursor
     let answers = word(rows, 3) as usize;
     put_call(
         p,
+        form,
         n,
         a,
         first(bodies, head),
@@ -31,15 +33,15 @@ fn put_row(p: Cursor, rows: &[u32], bodies: &[u32], out: &mut [u8]) -> Cursor
     )
 }
 
-fn put_calls(p: Cursor, n: u32, rows: &[u32], bodies: &[u32], out: &mut [u8]) -> Cursor
-    ensures { λ r. ⌜ laid r (now (out .exit)) ≡ emitOf (callsText n (now (rows .entry)) (now (bodies .entry))) (laid p (now (out .entry))) ⌝ }
+fn put_calls(p: Cursor, form: Form, n: u32, rows: &[u32], bodies: &[u32], out: &mut [u8]) -> Cursor
+    ensures { λ r. ⌜ laid r (now (out .exit)) ≡ emitOf (callsText form n (now (rows .entry)) (now (bodies .entry))) (laid p (now (out .entry))) ⌝ }
 {
     let mut q = p;
     let mut left = n;
     let mut table = rows;
     let mut rest = bodies;
     while 0 < left {
-        q = put_row(q, table, rest, out);
+        q = put_row(q, form, table, rest, out);
         let others = after(rest, body_size(table));
         rest = others;
         let more = after(table, 4);
@@ -49,19 +51,19 @@ fn put_calls(p: Cursor, n: u32, rows: &[u32], bodies: &[u32], out: &mut [u8]) ->
     q
 }
 
-fn put_table(p: Cursor, n: u32, words: &[u32], out: &mut [u8]) -> Cursor
-    ensures { λ r. ⌜ laid r (now (out .exit)) ≡ emitOf (tableText n (now (words .entry))) (laid p (now (out .entry))) ⌝ }
+fn put_table(p: Cursor, form: Form, n: u32, words: &[u32], out: &mut [u8]) -> Cursor
+    ensures { λ r. ⌜ laid r (now (out .exit)) ≡ emitOf (tableText form n (now (words .entry))) (laid p (now (out .entry))) ⌝ }
 {
-    put_calls(p, n, words, after(words, 4 * n as usize), out)
+    put_calls(p, form, n, words, after(words, 4 * n as usize), out)
 }
 
-fn put_words(p: Cursor, words: &[u32], out: &mut [u8]) -> Cursor
-    ensures { λ r. ⌜ laid r (now (out .exit)) ≡ emitOf (wordsText (now (words .entry))) (laid p (now (out .entry))) ⌝ }
+fn put_words(p: Cursor, form: Form, words: &[u32], out: &mut [u8]) -> Cursor
+    ensures { λ r. ⌜ laid r (now (out .exit)) ≡ emitOf (wordsText form (now (words .entry))) (laid p (now (out .entry))) ⌝ }
 {
     if benchfile::is_wrong(words) {
         return lines::put_refusal(p, out);
     }
-    put_table(p, word(words, 0), after(words, 1), out)
+    put_table(p, form, word(words, 0), after(words, 1), out)
 }
 
 fn room() -> [u32; WORDS]
@@ -70,13 +72,13 @@ fn room() -> [u32; WORDS]
     [0; WORDS]
 }
 
-pub fn put_file(p: Cursor, file: &[u8], out: &mut [u8]) -> Cursor
-    ensures { λ r. ⌜ laid r (now (out .exit)) ≡ emitOf (fileText (now (file .entry))) (laid p (now (out .entry))) ⌝ }
+pub fn put_file(p: Cursor, form: Form, file: &[u8], out: &mut [u8]) -> Cursor
+    ensures { λ r. ⌜ laid r (now (out .exit)) ≡ emitOf (fileText form (now (file .entry))) (laid p (now (out .entry))) ⌝ }
 {
     if benchfile::is_size_wrong(file.len()) {
         return lines::put_refusal(p, out);
     }
     let mut words = room();
     let n = words::decode(file, &mut words);
-    put_words(p, &words[..n], out)
+    put_words(p, form, &words[..n], out)
 }

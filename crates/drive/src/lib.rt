@@ -11,6 +11,7 @@ use calls::Description;
 use calls::Report;
 use calls::SavedCall;
 use kinds::report;
+use lines::Form;
 use window::Cursor;
 
 // The words of the log: 512 places. A run has as many advances as make 131,072 places.
@@ -30,9 +31,10 @@ fn log() -> [u32; LOG]
     [0; LOG]
 }
 
-// One advance more, over 512 places, and the lines of its accesses.
+// One advance more, over 512 places, and the text of its accesses, which are numbered on.
 fn piece(
     t: Driven,
+    form: Form,
     d: Description,
     ops: &[u32],
     buffer: &mut [u8],
@@ -40,7 +42,7 @@ fn piece(
     out: &mut [u8],
 ) -> Driven
     requires { ⌜ (t .advanced .used ≤ length (now answers)) × (t .advanced .written ≤ 131072) ⌝ }
-    ensures { λ r. ⌜ asDriven r (now (buffer .exit)) (now (out .exit)) ≡ goOn inLines d (now (ops .entry)) (now (answers .entry)) 512 (asDriven t (now (buffer .entry)) (now (out .entry))) ⌝ }
+    ensures { λ r. ⌜ asDriven r (now (buffer .exit)) (now (out .exit)) ≡ goOn (inLines form) d (now (ops .entry)) (now (answers .entry)) 512 (asDriven t (now (buffer .entry)) (now (out .entry))) ⌝ }
 {
     let mut log = log();
     let place = t.place;
@@ -49,6 +51,7 @@ fn piece(
     let saved = far.saved;
     let a = in_place::advance(d, ops, saved, buffer, &answers[used..], &mut log);
     let words = 2 * a.written;
+    let first = (far.written + 1) as u32;
     let next = a.saved;
     let report = a.report;
     let advanced = Advanced {
@@ -58,13 +61,14 @@ fn piece(
         report,
     };
     Driven {
-        place: lines::put_accesses(place, &log[..words], out),
+        place: lines::put_log(place, form, first, &log[..words], out),
         advanced,
     }
 }
 
 fn run(
     p: Cursor,
+    form: Form,
     d: Description,
     ops: &[u32],
     saved: SavedCall,
@@ -72,7 +76,7 @@ fn run(
     answers: &[u32],
     out: &mut [u8],
 ) -> Driven
-    ensures { λ r. ⌜ asDriven r (now (buffer .exit)) (now (out .exit)) ≡ reachedBy inLines (runOf d (now (ops .entry)) places saved (now (buffer .entry)) (now (answers .entry))) (laid p (now (out .entry))) ⌝ }
+    ensures { λ r. ⌜ asDriven r (now (buffer .exit)) (now (out .exit)) ≡ reachedBy (inLines form) (runOf d (now (ops .entry)) places saved (now (buffer .entry)) (now (answers .entry))) (laid p (now (out .entry))) ⌝ }
 {
     let advanced = Advanced {
         used: 0,
@@ -83,7 +87,7 @@ fn run(
     let mut t = Driven { place: p, advanced };
     let mut left = PIECES;
     while 0 < left {
-        t = piece(t, d, ops, buffer, answers, out);
+        t = piece(t, form, d, ops, buffer, answers, out);
         left -= 1;
         let far = t.advanced;
         let report = far.report;
@@ -94,18 +98,19 @@ fn run(
     t
 }
 
-// Drives a call from its beginning; its access lines are put into the window.
+// Drives a call from its beginning; its accesses are put into the window, in one of the two forms.
 pub fn drive(
     p: Cursor,
+    form: Form,
     d: Description,
     ops: &[u32],
     buffer: &mut [u8],
     answers: &[u32],
     out: &mut [u8],
 ) -> Driven
-    ensures { λ r. ⌜ asDriven r (now (buffer .exit)) (now (out .exit)) ≡ reachedBy inLines (runFor d (now (ops .entry)) (now (buffer .entry)) (now (answers .entry))) (laid p (now (out .entry))) ⌝ }
+    ensures { λ r. ⌜ asDriven r (now (buffer .exit)) (now (out .exit)) ≡ reachedBy (inLines form) (runFor d (now (ops .entry)) (now (buffer .entry)) (now (answers .entry))) (laid p (now (out .entry))) ⌝ }
 {
     let begun = driver::begin(d, ops, buffer);
     let saved = begun.saved;
-    run(p, d, ops, saved, buffer, answers, out)
+    run(p, form, d, ops, saved, buffer, answers, out)
 }

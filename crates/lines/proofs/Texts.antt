@@ -1,4 +1,4 @@
--- The loops over a log and a buffer. Assumes nothing.
+-- The loops over a log and a buffer, and a log in either form. Assumes nothing.
 use Prim.Native.Nat.{ℕ, _-_, _≤_, _<_}
 use native.Mathlib.Omega.{arith}
 use mathlib.Core.Path.{_≡_, refl}
@@ -8,8 +8,9 @@ use lib.Seq.{take-all}
 use borrow.Author.Tests.{lt-ltb, le-ltb, eq-eqb, ne-eqb}
 use Rattle.numerals.specs.Numbers.{hexOf}
 use Rattle.window.specs.Window.{Laid, emitOf}
-use Rattle.window.proofs.Laid.{emit-append, emit-none}
-use Rattle.lines.specs.Lines.{accessLine, accessLines, bytesText}
+use Rattle.window.proofs.Laid.{emit-append, emit-none, found}
+use Rattle.lines.specs.Lines.{accessLine, accessLines, logText, bytesText}
+use Rattle.lines.specs.declared.Form.{Form}
 
 pub ruleset tests = (lt-ltb, le-ltb, eq-eqb, ne-eqb)
 
@@ -53,3 +54,7 @@ module _ (bytes rest : List ℕ) (K L : Laid) (done : emitOf (bytesText rest) L 
   pub next-byte : 0 < length rest → (M : Laid) → M ≡ emitOf (hexOf 2 (getD rest 0 0)) L →
       emitOf (bytesText (take (length rest - 1) (drop 1 rest))) M ≡ emitOf (bytesText bytes) K
   next-byte h M e = rw e (rw (first-byte rest h, emit-append) at done)
+
+-- ---- a log in the form that was found
+pub in-form : (n : ℕ) (log : List ℕ) (f g : Form) (L M : Laid) → f ≡ g → M ≡ emitOf (logText g n log) L → M ≡ emitOf (logText f n log) L
+in-form n log = found (λ (f : Form). logText f n log)

@@ -10,7 +10,10 @@ use Rattle.calls.specs.declared.Outcome.the-variants.{Done, Bus, Arbitration, N
 use Rattle.calls.specs.declared.Report.{Report}
 use Rattle.calls.specs.declared.Report.the-variants.{Over, Full, Waiting, Refused}
 use Rattle.numerals.specs.Numbers.{hexOf, decimalOf}
+use Rattle.page.specs.Page.{entriesText}
 use Rattle.window.specs.Codes.{codes}
+use Rattle.lines.specs.declared.Form.{Form}
+use Rattle.lines.specs.declared.Form.the-variants.{Lines, Page}
 
 abbrev pub space : List ℕ
 space = codes " "
@@ -59,6 +62,11 @@ unfoldable pub accessLines : List ℕ → List ℕ
 accessLines [] = []
 accessLines (w ∷ []) = []
 accessLines (offset ∷ value ∷ ws) = accessLine offset value ++ accessLines ws
+
+-- and in the form asked for, lines or a service page whose first entry is entry n
+unfoldable pub logText : Form → ℕ → List ℕ → List ℕ
+logText Lines n ws = accessLines ws
+logText Page n ws = entriesText n ws
 
 unfoldable pub bytesText : List ℕ → List ℕ
 bytesText [] = []

@@ -2,11 +2,17 @@
 ghost use mathlib.Core.Path.{_≡_};
 ghost use Rattle.numerals.specs.Numbers.{hexOf, decimalOf};
 ghost use Rattle.window.specs.Window.{laid, emitOf};
-ghost use Rattle.lines.specs.Lines.{space, newline, numberField, outcomeWord, reportWord, callStart, callLine, letterOf, accessLine, accessLines, bytesText, fullBuffer, bufferLine, refusalLine};
+ghost use Rattle.lines.specs.Lines.{space, newline, numberField, outcomeWord, reportWord, callStart, callLine, letterOf, accessLine, accessLines, logText, bytesText, fullBuffer, bufferLine, refusalLine};
 use calls::Outcome;
 use calls::Report;
 use kinds::report;
 use window::Cursor;
+
+// How a log stands in the text: as access lines, or as a service page.
+pub enum Form {
+    Lines,
+    Page,
+}
 
 fn put_outcome(p: Cursor, o: Outcome, out: &mut [u8]) -> Cursor
     ensures { λ r. ⌜ laid r (now (out .exit)) ≡ emitOf (outcomeWord o) (laid p (now (out .entry))) ⌝ }
@@ -123,7 +129,7 @@ fn put_access(p: Cursor, offset: u32, value: u32, out: &mut [u8]) -> Cursor
 }
 
 // The lines of the entries that stand in a log's words.
-pub fn put_accesses(p: Cursor, log: &[u32], out: &mut [u8]) -> Cursor
+fn put_accesses(p: Cursor, log: &[u32], out: &mut [u8]) -> Cursor
     ensures { λ r. ⌜ laid r (now (out .exit)) ≡ emitOf (accessLines (now (log .entry))) (laid p (now (out .entry))) ⌝ }
 {
     let mut q = p;
@@ -133,6 +139,16 @@ pub fn put_accesses(p: Cursor, log: &[u32], out: &mut [u8]) -> Cursor
         rest = &rest[2..];
     }
     q
+}
+
+// The entries of a log's words in one of the two forms; on a page the first has the number `first`.
+pub fn put_log(p: Cursor, form: Form, first: u32, log: &[u32], out: &mut [u8]) -> Cursor
+    ensures { λ r. ⌜ laid r (now (out .exit)) ≡ emitOf (logText form first (now (log .entry))) (laid p (now (out .entry))) ⌝ }
+{
+    match form {
+        Form::Lines => put_accesses(p, log, out),
+        Form::Page => page::put_entries(p, first, log, out),
+    }
 }
 
 fn put_bytes(p: Cursor, bytes: &[u8], out: &mut [u8]) -> Cursor

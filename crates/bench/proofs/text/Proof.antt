@@ -16,4 +16,4 @@ text-spec =
     (λ c κs. search needs)
     (λ c κs. search needs)
     (λ c. search needs)
-    (λ c. let a = c .before .before .before .before .before .before .before .args in (windowed (a .from) (fileText (a .file .now)) (a .out .now) _ (c .before .before .put-file .ensures ∙ ap (λ (p : Cursor). emitOf (fileText (a .file .now)) (laid p (a .out .now))) (c .before .before .before .before .new .ensures)), every-whole (a .file .now))))
+    (λ c. let a = c .before .before .before .before .before .before .before .args in (windowed (a .from) (fileText (a .form) (a .file .now)) (a .out .now) _ (c .before .before .put-file .ensures ∙ ap (λ (p : Cursor). emitOf (fileText (a .form) (a .file .now)) (laid p (a .out .now))) (c .before .before .before .before .new .ensures)), every-whole (a .file .now))))

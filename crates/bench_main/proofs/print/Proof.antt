@@ -4,10 +4,10 @@ use Rattle.bench_main.proofs.print.Statement.{statement}
 use Rattle.bench_main.proofs.print.Tie as tie
 
 abbrev Inv-loop : tie.InvT-loop
-Inv-loop file out₀ from₀ turns₀ out from turns = Unit {0}
+Inv-loop file form out₀ from₀ turns₀ out from turns = Unit {0}
 
 abbrev μ-loop : tie.MeasureT-loop
-μ-loop file out₀ from₀ turns₀ out from turns = turns
+μ-loop file form out₀ from₀ turns₀ out from turns = turns
 
 pub print-spec : {M : Type 1} → statement M
 print-spec =

@@ -34,14 +34,16 @@ piece-spec =
         v .before .before .before .before .before .before .before .log .ensures,
       );
     })
+    (λ c. omega (arith, c .before .before .before .before .before .before .before .before .before .before .before .before .before .before .before .before .before .pre .1))
+    (λ c. omega (arith, c .before .before .before .before .before .before .before .before .before .before .before .before .before .before .before .before .before .pre .1))
     (λ c.
-    let v = c .before .before .before .before .before .before in
+    let v = c .before .before .before .before .before .before .before in
     let a = v .before .before .before .before .before .before .before .before .before .before .before .before .args in
     let h = some-used (a .d) (a .ops .now) (a .t .advanced) (a .buffer .now) (take (length (a .answers .now) - a .t .advanced .used) (drop (a .t .advanced .used) (a .answers .now)))
     (v .before .before .before .before .before .before .before .log .result) (v .advance .result) _ _ (v .advance .ensures) in
-    record { fits = omega (arith, simp (length-take, length-drop) at h, v .before .before .before .before .before .before .before .before .before .before .before .before .pre .0, v .before .before .before .before .before .before .before .before .before .before .before .before .good .1 .1 .1 .1 .0 .0) })
+    record { fits = omega (arith, simp (length-take, length-drop) at h, v .before .before .before .before .before .before .before .before .before .before .before .before .pre .0, v .before .before .before .before .before .before .before .before .before .before .before .before .good .1 .1 .1 .1 .1 .0 .0) })
     (λ c.
-    let v = c .before .before .before .before .before .before .before .before in
+    let v = c .before .before .before .before .before .before .before .before .before in
     let a = v .before .before .before .before .before .before .before .before .before .before .before .before .args in
     record {
       fits = omega (
@@ -53,12 +55,12 @@ piece-spec =
       );
     })
     (λ c.
-    let v = c .before .before .before .before .before .before .before .before in
+    let v = c .before .before .before .before .before .before .before .before .before in
     let a = v .before .before .before .before .before .before .before .before .before .before .before .before .args in
     in-log (a .d) (a .ops .now) (a .t .advanced) (a .buffer .now) (take (length (a .answers .now) - a .t .advanced .used) (drop (a .t .advanced .used) (a .answers .now)))
     (v .before .before .before .before .before .before .before .log .result) (v .advance .result) _ _ (v .advance .ensures) (v .advance .last .1 .1 .1 .1 .1 .0) [] (sym (append-nil (v .advance .last .1 .1 .1 .1 .1 .0))))
     (λ c.
-    let v = c .before .before .before .before .before .before .before .before .before in
+    let v = c .before .before .before .before .before .before .before .before .before .before in
     let a = v .before .before .before .before .before .before .before .before .before .before .before .before .args in
     counted (a .d) (a .ops .now) (a .t .advanced) (a .buffer .now) (take (length (a .answers .now) - a .t .advanced .used) (drop (a .t .advanced .used) (a .answers .now)))
     (v .before .before .before .before .before .before .before .log .result) (v .advance .result) _ _ (v .advance .ensures) (v .advance .last .1 .1 .1 .1 .1 .0) [] (sym (append-nil (v .advance .last .1 .1 .1 .1 .1 .0))))
@@ -66,9 +68,9 @@ piece-spec =
     (λ c. search needs)
     (λ c. search needs)
     (λ c.
-    let v = c .before .before .before .before .before .before .before .before .before .before .before .before .before in
+    let v = c .before .before .before .before .before .before .before .before .before .before .before .before .before .before in
     let a = v .before .before .before .before .before .before .before .before .before .before .before .before .args in
     added (a .d) (a .ops .now) (a .t .advanced) (a .buffer .now) (take (length (a .answers .now) - a .t .advanced .used) (drop (a .t .advanced .used) (a .answers .now)))
     (v .before .before .before .before .before .before .before .log .result) (v .advance .result) _ _ (v .advance .ensures) (v .advance .last .1 .1 .1 .1 .1 .0) [] (sym (append-nil (v .advance .last .1 .1 .1 .1 .1 .0)))
-    inLines (laid (a .t .place) (a .out .now)) _ (c .before .before .put-accesses .ensures) (a .answers .now) 512 (all-left (a .t .advanced .used) (a .answers .now))
+    (inLines (a .form)) (laid (a .t .place) (a .out .now)) _ (c .before .before .put-log .ensures) (a .answers .now) 512 (all-left (a .t .advanced .used) (a .answers .now))
     (omega (arith, v .before .before .before .before .before .before .before .log .ensures))))

@@ -14,4 +14,4 @@ show-spec =
     (λ c κs. search needs)
     (λ c. search needs)
     (λ c. search needs)
-    (λ c. let a = c .before .before .before .before .before .before .before .before .before .before .before .before .before .before .before .before .before .before .args in let v = c .before .before .before .before .before .before .before .before .before .before .before .drive in shown (a .n) (v .result) (v .last .1 .1 .1 .0) (v .last .1 .1 .1 .1 .1 .0) (runFor (a .d) (a .ops .now) (a .buffer .now) (a .answers .now)) (laid (a .p) (a .out .now)) _ (v .ensures) (c .before .before .put-buffer .ensures)))
+    (λ c. let a = c .before .before .before .before .before .before .before .before .before .before .before .before .before .before .before .before .before .before .args in let v = c .before .before .before .before .before .before .before .before .before .before .before .drive in shown (a .form) (a .n) (v .result) (v .last .1 .1 .1 .1 .0) (v .last .1 .1 .1 .1 .1 .1 .0) (runFor (a .d) (a .ops .now) (a .buffer .now) (a .answers .now)) (laid (a .p) (a .out .now)) _ (v .ensures) (c .before .before .put-buffer .ensures)))

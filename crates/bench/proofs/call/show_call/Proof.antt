@@ -23,4 +23,4 @@ show-call-spec =
     (λ c. search (needs, counted))
     (λ c κs. search needs)
     (λ c. search needs)
-    (λ c. let a = c .before .before .before .before .before .before .before .before .before .before .before .before .before .before .args in c .before .before .before .show .ensures ∙ ap (λ (x : List ℕ). emitOf (runText (a .n) (runFor (a .d) (a .ops .now) x (a .answers .now))) (laid (a .p) (a .out .now))) (lent (wholeBuffer (a .n) (a .a) (a .head .now)) (c .before .before .before .before .before .before .before .before .before .room .result) (c .before .before .before .before .before .before .before .lay .result) (c .before .before .before .before .before .before .before .lay .last .1 .1 .1 .0) (c .before .before .before .before .before .before .before .lay .ensures) (c .before .before .before .before .before .before .before .before .before .room .ensures))))
+    (λ c. let a = c .before .before .before .before .before .before .before .before .before .before .before .before .before .before .args in c .before .before .before .show .ensures ∙ ap (λ (x : List ℕ). emitOf (runText (a .form) (a .n) (runFor (a .d) (a .ops .now) x (a .answers .now))) (laid (a .p) (a .out .now))) (lent (wholeBuffer (a .n) (a .a) (a .head .now)) (c .before .before .before .before .before .before .before .before .before .room .result) (c .before .before .before .before .before .before .before .lay .result) (c .before .before .before .before .before .before .before .lay .last .1 .1 .1 .0) (c .before .before .before .before .before .before .before .lay .ensures) (c .before .before .before .before .before .before .before .before .before .room .ensures))))

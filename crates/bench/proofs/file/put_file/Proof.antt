@@ -27,4 +27,4 @@ put-file-spec =
     (λ c. search (needs, decoded-count))
     (λ c κs. search needs)
     (λ c. search needs)
-    (λ c. let a = c .before .before .before .before .before .before .before .before .before .before .before .before .before .args in let d = c .before .before .before .before .before .before .decode in let w = c .before .before .before .before .before .before .before .before .room in let s = c .before .before .before .before .before .before .before .before .before .before .is-size-wrong in other _ _ _ _ _ _ (s .ensures) (c .before .before .before .before .before .before .before .before .before .if1 .left) (c .before .before .put-words .ensures ∙ ap (λ (x : List ℕ). emitOf (wordsText x) (laid (a .p) (a .out .now))) (all-words (a .file .now) (w .result) (d .result) (d .last .1 .0) (sym (s .ensures) ∙ c .before .before .before .before .before .before .before .before .before .if1 .left) (w .ensures) (d .ensures)))))
+    (λ c. let a = c .before .before .before .before .before .before .before .before .before .before .before .before .before .args in let d = c .before .before .before .before .before .before .decode in let w = c .before .before .before .before .before .before .before .before .room in let s = c .before .before .before .before .before .before .before .before .before .before .is-size-wrong in other _ _ _ _ _ _ (s .ensures) (c .before .before .before .before .before .before .before .before .before .if1 .left) (c .before .before .put-words .ensures ∙ ap (λ (x : List ℕ). emitOf (wordsText (a .form) x) (laid (a .p) (a .out .now))) (all-words (a .file .now) (w .result) (d .result) (d .last .1 .0) (sym (s .ensures) ∙ c .before .before .before .before .before .before .before .before .before .if1 .left) (w .ensures) (d .ensures)))))

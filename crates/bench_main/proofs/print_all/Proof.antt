@@ -1,18 +1,18 @@
--- `bench_main::main` is safe and ends: the measure is the arguments that are left. Assumes nothing.
+-- `bench_main::print_all` is safe and ends: the measure is the arguments that are left. Assumes nothing.
 use borrow.Author.Needs.{needs}
 use Prim.Native.Nat.{_-_}
 use native.Mathlib.Omega.{arith}
-use Rattle.bench_main.proofs.main.Statement.{statement}
-use Rattle.bench_main.proofs.main.Tie as tie
+use Rattle.bench_main.proofs.print_all.Statement.{statement}
+use Rattle.bench_main.proofs.print_all.Tie as tie
 
 abbrev Inv-loop : tie.InvT-loop
-Inv-loop count i₀ i = Unit {0}
+Inv-loop form first count i₀ i = Unit {0}
 
 abbrev μ-loop : tie.MeasureT-loop
-μ-loop count i₀ i = count - i
+μ-loop form first count i₀ i = count - i
 
-pub main-spec : {M : Type 1} → statement M
-main-spec =
+pub print-all-spec : {M : Type 1} → statement M
+print-all-spec =
     tie.close
     (tie.spec
     Inv-loop
