@@ -13,3 +13,4 @@ pub mod Promised
 pub mod Putting
 pub mod Entries
 pub mod Logs
+pub mod Restated

@@ -23,7 +23,7 @@ abbrev pub Lines : List (List ℕ) → Type 0
 Lines [] = Unit {0}
 Lines (l ∷ ls) = (length l ≡ 80) × Printable l × Lines ls
 
--- a log has a fault unless it has an even number of words, and every code is a register's
+-- an even number of words, and every code a register's
 abbrev pub EachKnown : List ℕ → Type 0
 EachKnown [] = Unit {0}
 EachKnown (w ∷ []) = ⊥
