@@ -1,6 +1,5 @@
 -- The text of an entry: its head, its tokens on lines, and how much it is. Assumes nothing.
 use Prim.Native.Nat.{ℕ, zero, suc, _+_, _-_, _≤_, _<_}
-use native.Mathlib.Nat.{add-assoc}
 use native.Mathlib.Omega.{arith}
 use Prim.Native.String.{String}
 use mathlib.Core.Path.{_≡_, refl, sym, ap, _∙_}
@@ -69,7 +68,7 @@ lines-tail line (t ∷ ts) = go (leb (length line + (1 + length t)) 80) (lines-t
         textOf (cond b (linesFrom (line ++ spaces 1 ++ t) ts) (filled 80 line ∷ linesFrom (spaces 30 ++ t) ts))
         ≡ line ++ cond b ((spaces 1 ++ t) ++ tailOf (length line + (1 + length t)) ts)
         ((ending (length line) ++ spaces 29) ++ ((spaces 1 ++ t) ++ tailOf (29 + (1 + length t)) ts))
-    go true e f = e ∙ simp (length-append, append-assoc, add-assoc)
+    go true e f = e ∙ simp (length-append, append-assoc)
     go false e f =
         let g : length (spaces 30 ++ t) ≡ 29 + (1 + length t) = omega arith in
         ap (λ (s : List ℕ). (filled 80 line ++ codes "\n") ++ s) (f ∙ ap (λ (k : ℕ). (spaces 30 ++ t) ++ tailOf k ts) g)
