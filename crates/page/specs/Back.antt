@@ -3,7 +3,7 @@ use Prim.Native.Nat.{ℕ, _+_, _*_, _^_}
 use mathlib.Core.Bool.{Bool, true, false, cond, not, _&&_}
 use mathlib.Core.List.{List, [], _∷_, _++_}
 use lib.Dec.{eqb}
-use lib.ListN.{length, drop}
+use lib.ListN.{drop}
 use Rattle.numerals.specs.Numbers.{valueAfter}
 use Rattle.numerals.specs.Words.{isBlank, takeWhile, dropWhile}
 use Rattle.registers.specs.Fields.{Field, fieldsOf}

@@ -5,7 +5,6 @@ use mathlib.Core.Bool.{true}
 use mathlib.Core.List.{List, [], _∷_, _++_}
 use lib.ListN.{length, drop}
 use Rattle.registers.specs.declared.Register.{Register}
-use Rattle.window.specs.Codes.{codes}
 use Rattle.words.specs.Words.{wordsIn, Below}
 use Rattle.page.specs.Back.{fieldColumns, valueIn}
 use Rattle.page.specs.Page.{accessOf, isKnown, entryLines, linesOf, textOf, pageOf, faultFrom, faultOf, left, pageIn}
