@@ -1,51 +1,14 @@
-// Fields of a register word: read, written and tested, by masks of one table. Which place is which register's field is
-// the crate `registers`.
+// Fields of a register word: read, written and tested. Which place is which register's field is the crate `registers`.
 ghost use mathlib.Core.Path.{_≡_};
 ghost use Prim.Native.Nat.{_+_, _-_, _^_, _≤_, _<_, min};
 ghost use Rattle.fields.specs.Field.{bitsAt, withBits, getOf, putOf, flagOf, markOf, place, bit};
 
-// The mask of each width from 0 to 32: that many ones.
-const MASKS: [u32; 33] = [
-    0x0000_0000,
-    0x0000_0001,
-    0x0000_0003,
-    0x0000_0007,
-    0x0000_000F,
-    0x0000_001F,
-    0x0000_003F,
-    0x0000_007F,
-    0x0000_00FF,
-    0x0000_01FF,
-    0x0000_03FF,
-    0x0000_07FF,
-    0x0000_0FFF,
-    0x0000_1FFF,
-    0x0000_3FFF,
-    0x0000_7FFF,
-    0x0000_FFFF,
-    0x0001_FFFF,
-    0x0003_FFFF,
-    0x0007_FFFF,
-    0x000F_FFFF,
-    0x001F_FFFF,
-    0x003F_FFFF,
-    0x007F_FFFF,
-    0x00FF_FFFF,
-    0x01FF_FFFF,
-    0x03FF_FFFF,
-    0x07FF_FFFF,
-    0x0FFF_FFFF,
-    0x1FFF_FFFF,
-    0x3FFF_FFFF,
-    0x7FFF_FFFF,
-    0xFFFF_FFFF,
-];
-
+// So many ones, the lowest of them at bit 0. In 64 bits, because a shift of 32 bits by 32 is none.
 fn mask(width: u32) -> u32
     requires { ⌜ width ≤ 32 ⌝ }
     ensures { λ r. ⌜ r ≡ 2 ^ width - 1 ⌝ }
 {
-    MASKS[width as usize]
+    ((1u64 << width) - 1) as u32
 }
 
 fn bits(word: u32, at: u32, width: u32) -> u32
