@@ -3,7 +3,7 @@ ghost use mathlib.Core.Path.{_≡_};
 ghost use Prim.Native.Nat.{_+_, _-_, _^_, _≤_, _<_, min};
 ghost use Rattle.fields.specs.Field.{bitsAt, withBits, getOf, putOf, flagOf, markOf, place, bit};
 
-// So many ones, the lowest of them at bit 0. In 64 bits, because a shift of 32 bits by 32 is none.
+// The lowest `width` bits, set. It is worked out in 64 bits, because a word of 32 cannot be shifted by 32.
 fn mask(width: u32) -> u32
     requires { ⌜ width ≤ 32 ⌝ }
     ensures { λ r. ⌜ r ≡ 2 ^ width - 1 ⌝ }
