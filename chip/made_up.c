@@ -1,5 +1,5 @@
-/* Makes calls up, damages some of them, and prints sums over everything that the library said or wrote, at whatever address it
- * was lent. The same program on another machine has to print the same. */
+/* Makes calls, pages and speed bands up, damages some of them, and prints sums over everything that the library said or wrote, at whatever
+ * address it was lent. The same program on another machine has to print the same. */
 #include "huskerivory.h"
 
 #include <stdio.h>
@@ -48,7 +48,7 @@ static void add_number(uint64_t number) {
 
 /* ---- What is lent: room for any alignment, and bytes around it that have to stay as they are */
 
-enum { OPERATIONS = 70, BYTES = 700, ANSWERS = 80, PLACES = 90, AROUND = 16, LINES = 12 };
+enum { OPERATIONS = 70, BYTES = 700, ANSWERS = 80, PLACES = 90, AROUND = 16, LINES = 12, ROWS = 18 };
 
 typedef struct {
     uint8_t operations[4 * OPERATIONS + AROUND], buffer[BYTES + AROUND], saved[HUSKERIVORY_SAVED_CALL + AROUND];
@@ -61,6 +61,10 @@ static memory all;
 static uint8_t paper[LINES * HUSKERIVORY_PAGE_LINE + AROUND];
 static uint32_t written;  /* entries that the last advance wrote */
 static unsigned pages[2]; /* laid out, and refused */
+
+static uint8_t table[HUSKERIVORY_BAND * ROWS + AROUND];
+static unsigned tables[2];   /* accepted, and refused */
+static unsigned timings[18]; /* by bands, given and by their refusals */
 
 static huskerivory_description description;
 static uint8_t *operations, *buffer, *saved, *answers, *entries;
@@ -203,6 +207,57 @@ static void lay_out(void) {
     pages[number != 0]++;
 }
 
+/* A row above the one before, now and then not; its other numbers mostly within what is accepted, and often at the edge. */
+static huskerivory_band make_band_up(uint32_t before) {
+    static const uint32_t edges[] = {7, 8, 96, 255, 256, 257};
+    huskerivory_band band;
+    uint32_t rise = once_in(2) ? 200000 : 5000, most = once_in(2) ? 20000000 : 1000;
+    band.upper = once_in(60) ? before : before + 1 + below(rise);
+    band.least_clock = about(20000000);
+    band.d = once_in(20) ? edges[below(sizeof edges / sizeof edges[0])] : 8 + below(249);
+    band.sdadel = once_in(100) ? 0 : 1 + about(most);
+    band.scldel = once_in(100) ? 0 : 1 + about(most);
+    band.shape = once_in(80) ? about(4) : below(2);
+    return band;
+}
+
+/* Rows of a table, of which the upper frequencies of the last two are left in `uppers`. */
+static void make_bands_up(uint8_t *bands, uint32_t count, uint32_t uppers[2]) {
+    uppers[0] = uppers[1] = 0;
+    for (uint32_t i = 0; i < count; i++) {
+        huskerivory_band band = make_band_up(uppers[1]);
+        uppers[0] = uppers[1];
+        uppers[1] = band.upper;
+        huskerivory_put_band(bands + i * HUSKERIVORY_BAND, &band);
+    }
+}
+
+/* A table of bands, loaded, and timings by it, be it accepted or not: at the edge of a row, within the table or anywhere. */
+static void time_by_bands(void) {
+    uint32_t most = once_in(4) ? ROWS : 4, count = once_in(20) ? below(2) : 1 + below(most), uppers[2];
+    uint8_t *bands = table + below(8);
+    make_bands_up(bands, count, uppers);
+    uint32_t length = HUSKERIVORY_BAND * count;
+    if (once_in(30)) {
+        length -= below(length + 1);
+    }
+    uint32_t loaded = huskerivory_load_bands(bands, length);
+    add_number(loaded);
+    tables[loaded != 0]++;
+    for (int i = 0; i < 4; i++) {
+        uint32_t fastest = once_in(2) ? 260000000 : 30000000, clock = about(fastest), frequency = about(uppers[1]), timingr;
+        if (once_in(2)) {
+            frequency = uppers[below(2)];
+            frequency += below(2);
+        }
+        uint32_t refusal = huskerivory_timing_by_bands(bands, length, clock, frequency, &timingr);
+        add_number(refusal);
+        add_number(timingr);
+        timings[refusal < 18 ? refusal : 0]++;
+    }
+    add_bytes(table, sizeof table);
+}
+
 static void time_and_pack(void) {
     uint32_t clock = about(260000000), fastest = once_in(2) ? 1000000 : 9000, timingr;
     huskerivory_timing_fields fields;
@@ -234,6 +289,7 @@ static void make_one_up(void) {
     }
     lay_out();
     time_and_pack();
+    time_by_bands();
 }
 
 int main(void) {
@@ -247,5 +303,11 @@ int main(void) {
         printf("report %d: %u\n", i, reports[i]);
     }
     printf("pages: %u laid out, %u refused\n", pages[0], pages[1]);
+    printf("tables of bands: %u accepted, %u refused\n", tables[0], tables[1]);
+    for (int i = 0; i < 18; i++) {
+        if (timings[i] != 0) {
+            printf("timings by them, refusal %d: %u\n", i, timings[i]);
+        }
+    }
     return 0;
 }

@@ -142,6 +142,31 @@ static void log_most(void) {
     huskerivory_put_word(entries + 4, UINT32_MAX);
 }
 
+/* Speed bands: a table of so many bytes, and what a timing by it left. */
+static uint8_t bands[HUSKERIVORY_BANDS * HUSKERIVORY_BAND];
+static uint32_t bands_len, by_bands;
+
+static void load_bands(void) {
+    note_depth();
+    report = huskerivory_load_bands(bands, bands_len);
+}
+
+/* The clock and frequency of `timing`, which are of the last row. */
+static void timing_by_bands(void) {
+    note_depth();
+    report = huskerivory_timing_by_bands(bands, bands_len, 250000000, 400000, &by_bands);
+}
+
+/* So many rows, the last of them document 01's of 400 kHz. */
+static void make_bands(uint32_t count) {
+    huskerivory_band band = {400000, 8000000, 96, 3000000, 1000000, HUSKERIVORY_SHAPE_DOUBLE};
+    bands_len = count * HUSKERIVORY_BAND;
+    for (uint32_t left = count; left > 0; left--) {
+        huskerivory_put_band(bands + (left - 1) * HUSKERIVORY_BAND, &band);
+        band.upper -= 10000;
+    }
+}
+
 /* ---- Instructions */
 
 #define SYST_CSR (*(volatile uint32_t *)0xE000E010)
@@ -229,6 +254,18 @@ static void tell_page(const char *name, uint32_t bytes) {
     tell(name, instructions(page, nothing, 100));
     if (report != 0 || page_len != bytes) {
         printf("%s said %u and %u bytes\n", name, (unsigned)report, (unsigned)page_len);
+    }
+}
+
+/* Loading a table of so many rows, and the timing by it, which is document 01's. */
+static void tell_bands(uint32_t count, const char *load, const char *timing) {
+    make_bands(count);
+    tell(load, instructions(load_bands, nothing, TIMES));
+    expect(load, 0);
+    tell(timing, instructions(timing_by_bands, nothing, TIMES));
+    expect(timing, 0);
+    if (by_bands != 0x60FB1C39) {
+        printf("%s left %08X\n", timing, (unsigned)by_bands);
     }
 }
 
@@ -320,6 +357,8 @@ static void tell_instructions(void) {
     tell("pack", instructions(pack, nothing, TIMES));
     tell("unpack", instructions(unpack, nothing, TIMES));
     tell("abi", instructions(abi, nothing, TIMES));
+    tell_bands(2, "load-2", "by-bands-2");
+    tell_bands(HUSKERIVORY_BANDS, "load-16", "by-bands-16");
     log_worked();
     tell_page("page-worked", 9 * HUSKERIVORY_PAGE_LINE);
     log_most();
@@ -367,6 +406,9 @@ static void tell_stacks(void) {
     tell_stack("stack-pack", pack);
     tell_stack("stack-unpack", unpack);
     tell_stack("stack-abi", abi);
+    make_bands(HUSKERIVORY_BANDS);
+    tell_stack("stack-load_bands", load_bands);
+    tell_stack("stack-timing_by_bands", timing_by_bands);
     log_most();
     tell_stack("stack-page", page);
 }

@@ -24,9 +24,9 @@
  * written through: what they point to may overlap nothing else that is lent to the same call. What is only read may overlap
  * what is only read. Nothing is kept: after the return all of it is the caller's again.
  *
- * Words. Operations, answers, log entries and the saved call are 32-bit words in little-endian bytes, without alignment.
+ * Words. Operations, answers, log entries, the saved call and speed bands are 32-bit words in little-endian bytes, without alignment.
  * Bytes after the last whole word, or after the last whole log entry, are neither read nor written; only huskerivory_page refuses a
- * log that has such bytes. The numbers of a struct are the machine's own.
+ * log that has such bytes, and a table of bands is refused that is not whole rows. The numbers of a struct are the machine's own.
  *
  * The library is, for x86-64, target/staticlib/libboundary.a, which `rt staticlib boundary` writes; for the Cortex-M33,
  * target/chip/libhuskerivory-thumbv8m.a, and the same name with -hard for callers that pass floating-point numbers in
@@ -152,12 +152,15 @@ typedef struct {
 
 /* ---- Refusals */
 
-/* The first of these that fits is given, in the order in which they stand. 1 to 6 come from huskerivory_timing, 7 from
- * huskerivory_pack, 15 from huskerivory_page, the others from begin, next and advance; 13 from next and advance, and for a wrong
- * `saved_len`. 9 is out of use: it was an operation over 255 bytes. 14 is a bench file, which does not cross here. */
+/* The first of these that fits is given, in the order in which they stand. 1 to 6 come from huskerivory_timing, these and 16 and 17 from
+ * huskerivory_timing_by_bands, 16 from huskerivory_load_bands too, 7 from huskerivory_pack, 15 from huskerivory_page, the others from
+ * begin, next and advance; 13 from next and advance, and for a wrong `saved_len`. 9 is out of use: it was an operation over 255 bytes.
+ * 14 is a bench file, which does not cross here. */
 enum {
+    HUSKERIVORY_REFUSAL_BAD_BANDS = 16,    /* bad bands: the table is none that huskerivory_load_bands accepts */
     HUSKERIVORY_REFUSAL_NO_SPEED = 1,      /* no speed: the bus frequency is 0 */
     HUSKERIVORY_REFUSAL_CLOCK_OVER = 2,    /* clock over: the kernel clock is above 250 MHz */
+    HUSKERIVORY_REFUSAL_NO_BAND = 17,      /* no band: the frequency is above the upper frequency of the last row */
     HUSKERIVORY_REFUSAL_RATIO = 3,         /* ratio: the clock is not four times the frequency */
     HUSKERIVORY_REFUSAL_CLOCK_SLOW = 4,    /* clock slow: below the least clock for such a frequency */
     HUSKERIVORY_REFUSAL_SPEED_LOW = 5,     /* speed low: the clock is too many times the frequency */
@@ -316,10 +319,80 @@ uint32_t huskerivory_pack(const huskerivory_timing_fields *fields, uint32_t *tim
 /* Leaves the fields of a TIMINGR word; bits 24 to 27 belong to none. */
 void huskerivory_unpack(uint32_t timingr, huskerivory_timing_fields *fields);
 
+/* ---- The board's own speed bands */
+
+#define HUSKERIVORY_BAND 24  /* bytes of a row */
+#define HUSKERIVORY_BANDS 16 /* rows of a table, at most */
+
+/* How SCLH and SCLL share a period: the shape of a row. */
+enum {
+    HUSKERIVORY_SHAPE_EQUAL = 0, /* both halves the same */
+    HUSKERIVORY_SHAPE_DOUBLE = 1 /* low twice as long as high */
+};
+
+/* Where cables are longer, or edges slower, than huskerivory_timing allows for, the board's maker supplies speed bands of the board's own:
+ * a table of 1 to HUSKERIVORY_BANDS rows, one after the other, HUSKERIVORY_BAND bytes each, six words:
+ *
+ *     bytes  0 ..  3   upper: the row is for bus frequencies up to this one, in hertz, and above that of the row before
+ *     bytes  4 ..  7   least_clock: the least kernel clock, in hertz
+ *     bytes  8 .. 11   d: 8 to 256, for the prescaler
+ *     bytes 12 .. 15   sdadel: a divisor of the clock, for the data hold time
+ *     bytes 16 .. 19   scldel: another, for the data setup time
+ *     bytes 20 .. 23   shape: HUSKERIVORY_SHAPE_EQUAL or HUSKERIVORY_SHAPE_DOUBLE
+ *
+ * A row's fields of TIMINGR are, all divisions whole, with r = clock / frequency:
+ *
+ *     p = (r - 1) / d + 1, and in a row of shape equal at most 16; c = r / p
+ *     PRESC = p - 1
+ *     SCLDEL = clock / scldel / p - 1, held to 4 .. 15
+ *     SDADEL = clock / sdadel / p, held to 1 .. 15
+ *     equal:  SCLH = (c - 2) / 2, SCLL = SCLH
+ *     double: SCLH = (c - 3) / 3, SCLL = 2 (SCLH + 1) - 1
+ *
+ * A row with names to its words. On a little-endian machine, as both are that the library is made for, an array of these is a table as
+ * it stands, which can stay in flash: (const uint8_t *)bands, sizeof bands. */
+typedef struct {
+    uint32_t upper, least_clock, d, sdadel, scldel, shape;
+} huskerivory_band;
+
+/* A row in its 24 bytes, on every machine and at any alignment. This is the header's own; the library has no part in it. */
+static inline void huskerivory_put_band(uint8_t *bytes, const huskerivory_band *band) {
+    huskerivory_put_word(bytes, band->upper);
+    huskerivory_put_word(bytes + 4, band->least_clock);
+    huskerivory_put_word(bytes + 8, band->d);
+    huskerivory_put_word(bytes + 12, band->sdadel);
+    huskerivory_put_word(bytes + 16, band->scldel);
+    huskerivory_put_word(bytes + 20, band->shape);
+}
+
+/* Says whether a table can be used: returns 0, it is accepted, or refusal 16. It is accepted if it has 1 to HUSKERIVORY_BANDS rows, no byte
+ * less or more, every upper frequency is above that of the row before, each d is 8 to 256, no sdadel and no scldel is 0, and each shape
+ * is 0 or 1; and in no other case. An upper frequency of 0 and any least clock are taken.
+ *
+ * Nothing is kept and nothing written: the bytes stay with the caller, who lends them again for each timing. */
+uint32_t huskerivory_load_bands(const uint8_t *bands, uint64_t length);
+
+/* Leaves the TIMINGR word for a kernel clock and a bus frequency in hertz, by the board's own bands, and returns 0; or returns a refusal
+ * and leaves 0. The whole table is looked at first, each time, so that it need not have been loaded; one that huskerivory_load_bands
+ * accepts is never refused as 16. The refusals, in their order, each where none before it fits:
+ *
+ *     16   huskerivory_load_bands refuses the table
+ *      1   the frequency is 0
+ *      2   the clock is above 250 MHz
+ *     17   the frequency is above the upper frequency of the last row; every other one has a row, the first that goes up to it
+ *      3   the clock is not four times the frequency
+ *      4   the clock is below the row's least one
+ *      5   p is above 16, in a row of shape double, or SCLH or SCLL above 255, in any row
+ *      6   clock / scldel / p is 0, in any row: no data setup time can be counted
+ *
+ * With document 01's five bands, the last of them up to 4,294,967,295, it returns and leaves what huskerivory_timing does, for every
+ * clock and frequency. */
+uint32_t huskerivory_timing_by_bands(const uint8_t *bands, uint64_t length, uint32_t clock, uint32_t frequency, uint32_t *timingr);
+
 /* ---- Layout */
 
-/* To the library the three structs are arrays of numbers. All members of one have one size, so no compiler has a reason to leave
- * a gap; if one did, this would not compile. */
+/* To the library the first three structs are arrays of numbers, and a band is the bytes of a row. All members of one have one size, so no
+ * compiler has a reason to leave a gap; if one did, this would not compile. */
 #if defined(__cplusplus) && __cplusplus >= 201103L
 #define HUSKERIVORY_SIZE(type, size) static_assert(sizeof(type) == (size), #type)
 #elif !defined(__cplusplus) && defined(__STDC_VERSION__) && __STDC_VERSION__ >= 201112L
@@ -330,6 +403,7 @@ void huskerivory_unpack(uint32_t timingr, huskerivory_timing_fields *fields);
 HUSKERIVORY_SIZE(huskerivory_description, HUSKERIVORY_DESCRIPTION);
 HUSKERIVORY_SIZE(huskerivory_advanced, HUSKERIVORY_ADVANCED);
 HUSKERIVORY_SIZE(huskerivory_timing_fields, 5);
+HUSKERIVORY_SIZE(huskerivory_band, HUSKERIVORY_BAND);
 #undef HUSKERIVORY_SIZE
 
 #ifdef __cplusplus

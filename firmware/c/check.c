@@ -1,8 +1,8 @@
 /* Drives the library from C and holds it to document 01: version and sizes, the layout of the structs, the worked timings, the worked
- * run of its section on the bench, cut in two ways, operations that go in pieces (document 02, R-1), service pages (R-2), and refusals,
- * which must leave everything as it was. Prints a line for each group of checks; the exit status is 1 if one failed. It runs on a core
- * of 32 bits as well: calls are kept in static memory, since their logs are too long for a small stack, and numbers are printed as
- * `unsigned long`, which every printf knows. */
+ * run of its section on the bench, cut in two ways, operations that go in pieces (document 02, R-1), service pages (R-2), a board's own
+ * speed bands (R-4), and refusals, which must leave everything as it was. Prints a line for each group of checks; the exit status is 1
+ * if one failed. It runs on a core of 32 bits as well: calls are kept in static memory, since their logs are too long for a small stack,
+ * and numbers are printed as `unsigned long`, which every printf knows. */
 #include "huskerivory.h"
 
 #include <stddef.h>
@@ -37,6 +37,13 @@ PLACE(huskerivory_timing_fields, scldel, 1);
 PLACE(huskerivory_timing_fields, sdadel, 2);
 PLACE(huskerivory_timing_fields, sclh, 3);
 PLACE(huskerivory_timing_fields, scll, 4);
+SIZE(huskerivory_band, 24);
+PLACE(huskerivory_band, upper, 0);
+PLACE(huskerivory_band, least_clock, 4);
+PLACE(huskerivory_band, d, 8);
+PLACE(huskerivory_band, sdadel, 12);
+PLACE(huskerivory_band, scldel, 16);
+PLACE(huskerivory_band, shape, 20);
 
 /* ---- Checks in groups */
 
@@ -220,20 +227,24 @@ static void check_abi(void) {
     }
 }
 
+/* What a clock and a frequency come to: a refusal and 0, or 0 and a TIMINGR word. */
+typedef struct {
+    uint32_t clock, frequency, refusal, timingr;
+} timing_case;
+
+static const timing_case worked_timings[14] = {
+    {250000000, 400000, 0, 0x60FB1C39}, {250000000, 100000, 0, 0xF0F74D4D}, {8000000, 400000, 0, 0x0072050B},
+    {2000000, 100000, 0, 0x00410909},   {153601536, 100001, 0, 0xF0831F3F}, {153701537, 100001, 5, 0},
+    {65784000, 8000, 0, 0xF072FFFF},    {65792000, 8000, 5, 0},             {2000000, 1953, 0, 0x30417F7F},
+    {2000000, 1951, 6, 0},              {2000000, 0, 1, 0},                 {250000001, 400000, 2, 0},
+    {399999, 100000, 3, 0},             {1999999, 100000, 4, 0},
+};
+
 static void check_timings(void) {
-    static const struct {
-        uint32_t clock, frequency, refusal, timingr;
-    } cases[] = {
-        {250000000, 400000, 0, 0x60FB1C39}, {250000000, 100000, 0, 0xF0F74D4D}, {8000000, 400000, 0, 0x0072050B},
-        {2000000, 100000, 0, 0x00410909},   {153601536, 100001, 0, 0xF0831F3F}, {153701537, 100001, 5, 0},
-        {65784000, 8000, 0, 0xF072FFFF},    {65792000, 8000, 5, 0},             {2000000, 1953, 0, 0x30417F7F},
-        {2000000, 1951, 6, 0},              {2000000, 0, 1, 0},                 {250000001, 400000, 2, 0},
-        {399999, 100000, 3, 0},             {1999999, 100000, 4, 0},
-    };
-    for (size_t i = 0; i < sizeof cases / sizeof cases[0]; i++) {
+    for (size_t i = 0; i < 14; i++) {
         uint32_t timingr = UNWRITTEN;
-        CHECK(huskerivory_timing(cases[i].clock, cases[i].frequency, &timingr) == cases[i].refusal);
-        CHECK(timingr == cases[i].timingr);
+        CHECK(huskerivory_timing(worked_timings[i].clock, worked_timings[i].frequency, &timingr) == worked_timings[i].refusal);
+        CHECK(timingr == worked_timings[i].timingr);
     }
 }
 
@@ -806,6 +817,199 @@ static void check_long_lines(void) {
     check_no_page(log, HUSKERIVORY_LOG_ENTRY, HUSKERIVORY_PAGE_ENTRY - 1);
 }
 
+/* ---- The board's own speed bands */
+
+/* The two rows of the worked timings by bands, and document 01's five. */
+static const huskerivory_band own_bands[2] = {
+    {50000, 1000000, 32, 1000000, 250000, HUSKERIVORY_SHAPE_EQUAL},
+    {200000, 4000000, 200, 2000000, 800000, HUSKERIVORY_SHAPE_DOUBLE},
+};
+static const huskerivory_band plain_bands[5] = {
+    {7999, 2000000, 256, 2000000, 500000, HUSKERIVORY_SHAPE_EQUAL},
+    {79999, 2000000, 128, 2000000, 500000, HUSKERIVORY_SHAPE_EQUAL},
+    {100000, 2000000, 64, 2000000, 500000, HUSKERIVORY_SHAPE_EQUAL},
+    {400000, 8000000, 96, 3000000, 1000000, HUSKERIVORY_SHAPE_DOUBLE},
+    {0xFFFFFFFF, 17000000, 96, 8000000, 4000000, HUSKERIVORY_SHAPE_DOUBLE},
+};
+
+/* A table in bytes, at an odd address, and one row longer than any that is accepted. */
+enum { MOST_ROWS = HUSKERIVORY_BANDS + 1 };
+static uint8_t table_bytes[1 + MOST_ROWS * HUSKERIVORY_BAND];
+static uint8_t *const table = table_bytes + 1;
+
+static void put_bands(const huskerivory_band *bands, size_t count) {
+    for (size_t i = 0; i < count; i++) {
+        huskerivory_put_band(table + i * HUSKERIVORY_BAND, &bands[i]);
+    }
+}
+
+/* So many rows that rise by 10,000 hertz, the first of the worked ones in all else. */
+static void put_rising(size_t count) {
+    for (size_t i = 0; i < count; i++) {
+        huskerivory_band band = own_bands[0];
+        band.upper = 10000 * ((uint32_t)i + 1);
+        huskerivory_put_band(table + i * HUSKERIVORY_BAND, &band);
+    }
+}
+
+/* A timing by so many bytes of a table: the returned number and the word are these, and the table stays as it was. */
+static void check_timed(const uint8_t *bands, size_t length, timing_case expected) {
+    static uint8_t before[MOST_ROWS * HUSKERIVORY_BAND];
+    uint32_t timingr = UNWRITTEN;
+    memcpy(before, bands, length);
+    CHECK(huskerivory_timing_by_bands(bands, length, expected.clock, expected.frequency, &timingr) == expected.refusal);
+    CHECK(timingr == expected.timingr);
+    CHECK(memcmp(bands, before, length) == 0);
+}
+
+/* So many bytes of the table are accepted. Handed to a timing they are not refused as 16, but a frequency of 0 is, as 1. */
+static void check_accepted(size_t length) {
+    CHECK(huskerivory_load_bands(table, length) == 0);
+    check_timed(table, length, (timing_case){9, 0, HUSKERIVORY_REFUSAL_NO_SPEED, 0});
+}
+
+/* They are refused as 16: loaded, handed in with a good clock and frequency, and with what would be refused as 1, 2, 17 or 3. */
+static void check_bad(size_t length) {
+    CHECK(huskerivory_load_bands(table, length) == HUSKERIVORY_REFUSAL_BAD_BANDS);
+    check_timed(table, length, (timing_case){8000000, 50000, HUSKERIVORY_REFUSAL_BAD_BANDS, 0});
+    check_timed(table, length, (timing_case){9, 0, HUSKERIVORY_REFUSAL_BAD_BANDS, 0});
+    check_timed(table, length, (timing_case){250000001, 50000, HUSKERIVORY_REFUSAL_BAD_BANDS, 0});
+    check_timed(table, length, (timing_case){9, 0xFFFFFFFF, HUSKERIVORY_REFUSAL_BAD_BANDS, 0});
+}
+
+/* The worked timings, then each refusal where the next one fits too. A table of structs, lent as it lies in memory, gives the same as
+ * one of bytes. Two rows up to the same frequency are no table. */
+static void check_own_bands(void) {
+    static const timing_case cases[] = {
+        {8000000, 50000, 0, 0x40510F0F}, {8000000, 50001, 0, 0x00943469}, {250000000, 100000, 0, 0xC0F93F7F},
+        {4111999, 500, 0, 0xF041FFFF},   {4112000, 500, 5, 0},            {250000000, 75000, 5, 0},
+        {100, 200001, 17, 0},            {250000001, 200001, 2, 0},       {250000001, 0, 1, 0},
+        {799999, 200001, 17, 0},         {799999, 200000, 3, 0},          {999999, 1, 4, 0},
+        {1000000, 1, 5, 0},              {1000000, 2000, 6, 0},
+    };
+    put_bands(own_bands, 2);
+    CHECK(huskerivory_load_bands((const uint8_t *)own_bands, sizeof own_bands) == 0);
+    check_accepted(2 * HUSKERIVORY_BAND);
+    for (size_t i = 0; i < sizeof cases / sizeof cases[0]; i++) {
+        check_timed(table, 2 * HUSKERIVORY_BAND, cases[i]);
+        check_timed((const uint8_t *)own_bands, sizeof own_bands, cases[i]);
+    }
+    huskerivory_put_band(table + HUSKERIVORY_BAND, &own_bands[0]);
+    check_bad(2 * HUSKERIVORY_BAND);
+}
+
+/* In a row of either shape no setup time can be counted where the row's own scldel says so. A prescaler over 16 is held in an equal row,
+ * and refused in a double one. */
+static void check_shapes(void) {
+    static const struct {
+        huskerivory_band band;
+        timing_case cases[3];
+    } rows[] = {
+        {{1000000, 0, 100, 1, 10000000, HUSKERIVORY_SHAPE_EQUAL},
+         {{9999999, 1000000, 6, 0}, {10000000, 1000000, 0, 0x004F0404}, {19999999, 190000, 6, 0}}},
+        {{1000000, 0, 100, 1, 10000000, HUSKERIVORY_SHAPE_DOUBLE},
+         {{9999999, 1000000, 6, 0}, {10000000, 1000000, 0, 0x004F0205}, {19999999, 190000, 6, 0}}},
+        {{1000000, 0, 8, 1, 1, HUSKERIVORY_SHAPE_EQUAL},
+         {{128000000, 1000000, 0, 0xF0FF0303}, {129000000, 1000000, 0, 0xF0FF0303}, {250000000, 1000000, 0, 0xF0FF0606}}},
+        {{1000000, 0, 8, 1, 1, HUSKERIVORY_SHAPE_DOUBLE},
+         {{128000000, 1000000, 0, 0xF0FF0103}, {129000000, 1000000, 5, 0}, {250000000, 1000000, 5, 0}}},
+    };
+    for (size_t i = 0; i < sizeof rows / sizeof rows[0]; i++) {
+        put_bands(&rows[i].band, 1);
+        for (size_t j = 0; j < 3; j++) {
+            check_timed(table, HUSKERIVORY_BAND, rows[i].cases[j]);
+        }
+    }
+}
+
+/* 1 to 16 rows and no part of one; what follows the lent bytes is not looked at, be it rows or none. */
+static void check_lengths(void) {
+    put_rising(MOST_ROWS);
+    for (size_t length = 0; length <= MOST_ROWS * HUSKERIVORY_BAND; length++) {
+        size_t rows = length / HUSKERIVORY_BAND;
+        if (length % HUSKERIVORY_BAND == 0 && rows >= 1 && rows <= HUSKERIVORY_BANDS) {
+            check_accepted(length);
+            check_timed(table, length, (timing_case){100, 10000 * (uint32_t)rows + 1, HUSKERIVORY_REFUSAL_NO_BAND, 0});
+        } else {
+            check_bad(length);
+        }
+    }
+    memset(table, 0, MOST_ROWS * HUSKERIVORY_BAND);
+    put_rising(1);
+    check_accepted(HUSKERIVORY_BAND);
+    check_bad(2 * HUSKERIVORY_BAND);
+}
+
+/* Each word of a row at its edges, in each of 16 rows. */
+static void check_rows(void) {
+    enum { UPPER = 0, LEAST_CLOCK = 4, D = 8, SDADEL = 12, SCLDEL = 16, SHAPE = 20 };
+    static const struct {
+        uint32_t place, word;
+        int accepted;
+    } words[] = {
+        {LEAST_CLOCK, 0, 1}, {LEAST_CLOCK, 0xFFFFFFFF, 1},
+        {D, 0, 0}, {D, 7, 0}, {D, 8, 1}, {D, 256, 1}, {D, 257, 0}, {D, 0x108, 0}, {D, 0xFFFFFFFF, 0},
+        {SDADEL, 0, 0}, {SDADEL, 1, 1}, {SDADEL, 0x10000, 1}, {SDADEL, 0xFFFFFFFF, 1},
+        {SCLDEL, 0, 0}, {SCLDEL, 1, 1}, {SCLDEL, 0x10000, 1}, {SCLDEL, 0xFFFFFFFF, 1},
+        {SHAPE, 0, 1}, {SHAPE, 1, 1}, {SHAPE, 2, 0}, {SHAPE, 0x100, 0}, {SHAPE, 0x10001, 0}, {SHAPE, 0xFFFFFFFF, 0},
+    };
+    for (size_t row = 0; row < HUSKERIVORY_BANDS; row++) {
+        for (size_t i = 0; i < sizeof words / sizeof words[0]; i++) {
+            put_rising(HUSKERIVORY_BANDS);
+            huskerivory_put_word(table + row * HUSKERIVORY_BAND + words[i].place, words[i].word);
+            if (words[i].accepted) {
+                check_accepted(HUSKERIVORY_BANDS * HUSKERIVORY_BAND);
+            } else {
+                check_bad(HUSKERIVORY_BANDS * HUSKERIVORY_BAND);
+            }
+        }
+        put_rising(HUSKERIVORY_BANDS);
+        huskerivory_put_word(table + row * HUSKERIVORY_BAND + UPPER, 10000 * (uint32_t)row);
+        if (row == 0) {
+            check_accepted(HUSKERIVORY_BANDS * HUSKERIVORY_BAND); /* up to 0 */
+        } else {
+            check_bad(HUSKERIVORY_BANDS * HUSKERIVORY_BAND); /* up to where the row before goes */
+        }
+    }
+}
+
+/* The row is the first that goes up to the frequency: each has a least clock of its own, so that another row would tell. */
+static void check_chosen(void) {
+    put_rising(HUSKERIVORY_BANDS);
+    for (uint32_t row = 0; row < HUSKERIVORY_BANDS; row++) {
+        huskerivory_put_word(table + row * HUSKERIVORY_BAND + 4, 10000001 + row);
+    }
+    for (uint32_t row = 0; row < HUSKERIVORY_BANDS; row++) {
+        uint32_t clock = 10000001 + row, frequencies[2] = {row == 0 ? 5000 : 10000 * row + 1, 10000 * (row + 1)};
+        for (int i = 0; i < 2; i++) {
+            uint32_t timingr = UNWRITTEN;
+            check_timed(table, HUSKERIVORY_BANDS * HUSKERIVORY_BAND, (timing_case){clock - 1, frequencies[i], 4, 0});
+            CHECK(huskerivory_timing_by_bands(table, HUSKERIVORY_BANDS * HUSKERIVORY_BAND, clock, frequencies[i], &timingr) == 0);
+            CHECK(timingr != UNWRITTEN && timingr != 0);
+        }
+    }
+}
+
+/* By document 01's five bands the timing is huskerivory_timing, on the worked timings and at the edges of each band. */
+static void check_plain_bands(void) {
+    static const uint32_t clocks[] = {0, 1999999, 2000000, 7999999, 8000000, 16999999, 17000000, 250000000, 250000001, 0xFFFFFFFF};
+    static const uint32_t frequencies[] = {0,      1,      1000,   7999,   8000,    79999,    80000,      100000,
+                                           100001, 162602, 400000, 400001, 1000000, 62500000, 0xFFFFFFFE, 0xFFFFFFFF};
+    const size_t length = 5 * HUSKERIVORY_BAND;
+    put_bands(plain_bands, 5);
+    check_accepted(length);
+    for (size_t i = 0; i < 14; i++) {
+        check_timed(table, length, worked_timings[i]);
+    }
+    for (size_t i = 0; i < sizeof clocks / sizeof clocks[0]; i++) {
+        for (size_t j = 0; j < sizeof frequencies / sizeof frequencies[0]; j++) {
+            timing_case plain = {clocks[i], frequencies[j], UNWRITTEN, UNWRITTEN};
+            plain.refusal = huskerivory_timing(plain.clock, plain.frequency, &plain.timingr);
+            check_timed(table, length, plain);
+        }
+    }
+}
+
 int main(void) {
     run_group("version and sizes", check_abi);
     if (failed_groups != 0) {
@@ -813,6 +1017,12 @@ int main(void) {
     }
     run_group("timing", check_timings);
     run_group("packing and unpacking", check_packing);
+    run_group("timing by a board's own bands", check_own_bands);
+    run_group("bands of either shape", check_shapes);
+    run_group("tables of 1 to 16 rows, and no others", check_lengths);
+    run_group("rows that are accepted, and rows that are not", check_rows);
+    run_group("the row that is chosen", check_chosen);
+    run_group("timing by document 01's five bands", check_plain_bands);
     run_group("the worked run, one answer at a time", check_worked_run);
     run_group("the worked run, one log place at a time", check_places);
     run_group("the worked run, with other reserved words", check_reserved);

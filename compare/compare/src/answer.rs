@@ -8,12 +8,12 @@ use oracle::{unpack, Fields};
 /// A TIMINGR word, or why there is none.
 pub type Answer = Result<u32, Refusal>;
 
-/// A refusal by document 01's number.
+/// A refusal by the number of document 01 or 02.
 #[derive(Clone, Copy, Debug, PartialEq, Eq)]
 pub struct Refusal(pub u32);
 
 impl Refusal {
-    /// Document 01's words for refusals 1 to 7.
+    /// Document 01's words for refusals 1 to 7, and the program's for those of R-4.
     pub fn words(self) -> &'static str {
         match self.0 {
             1 => "no speed",
@@ -23,6 +23,8 @@ impl Refusal {
             5 => "speed low",
             6 => "no setup",
             7 => "field wide",
+            16 => "bad bands",
+            17 => "no band",
             _ => "not of the timing",
         }
     }

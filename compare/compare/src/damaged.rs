@@ -5,6 +5,7 @@
 //! held that it gives something document 01 allows for what was lent, and that a refusal changes
 //! nothing.
 
+mod bands;
 mod bytes;
 mod memory;
 mod pages;
@@ -17,6 +18,7 @@ use crate::random::Random;
 use crate::rattle::{
     self, saved, Advanced, Left, Next, ENTRY, FULL, NONE_REFUSED, REFUSED, SAVED, STEPS, WAITING,
 };
+use bands::{Bands, Timings};
 use bytes::Bytes;
 use memory::Memory;
 use pages::{Page, Pages};
@@ -77,11 +79,13 @@ struct Boundary {
     answers: Memory,
     log: Memory,
     page: Memory,
+    bands: Memory,
     calls: u64,
     /// Advances by their reports, and refused ones by their numbers.
     reports: [u64; FULL as usize + 1],
     refusals: [u64; 14],
     pages: Pages,
+    timings: Timings,
 }
 
 impl Boundary {
@@ -99,10 +103,12 @@ impl Boundary {
             answers: memory(),
             log: memory(),
             page: memory(),
+            bands: memory(),
             calls: 0,
             reports: [0; FULL as usize + 1],
             refusals: [0; 14],
             pages: Pages::default(),
+            timings: Timings::default(),
         }
     }
 
@@ -110,24 +116,28 @@ impl Boundary {
         println!("damaged: advances by report: {:?}", self.reports);
         println!("damaged: refused ones by number: {:?}", self.refusals);
         println!("damaged: {:?}", self.pages);
+        println!("damaged: by bands {:?}", self.timings);
         println!("damaged: {} calls, all as they should be", self.calls);
     }
 
     fn all_reached(&self) -> bool {
         let all = self.reports.iter().all(|&count| count > 0)
             && REFUSALS.iter().all(|&it| self.refusals[it as usize] > 0)
-            && self.pages.all_reached();
+            && self.pages.all_reached()
+            && self.timings.all_reached();
         if !all {
-            println!("damaged: a report, a refusal or a kind of page was not reached");
+            println!("damaged: a report, a refusal, a kind of page or of bands was not reached");
         }
         all
     }
 
     /// Makes a call or two on a real run, mostly with something damaged.
     fn call(&mut self, real: &mut Bytes, random: &mut Random) -> Result<(), String> {
-        let turn = random.up_to(8);
-        if turn == 2 {
-            return self.page(random);
+        let turn = random.up_to(9);
+        match turn {
+            2 => return self.page(random),
+            3 => return self.bands(random),
+            _ => {}
         }
         let mut lent = real.lent(random);
         let damaged = random.up_to(3) != 0;
@@ -194,6 +204,25 @@ impl Boundary {
         kept("the log of a page", log, &lent.log)
             .and_then(|()| lent.hold(number, *length, page, &mut self.pages))
             .map_err(|wrong| format!("call {}: {wrong}\n{lent:X?}", self.calls))
+    }
+
+    /// Both functions of a table of speed bands, damaged or not.
+    fn bands(&mut self, random: &mut Random) -> Result<(), String> {
+        self.count();
+        let lent = Bands::any(random);
+        let table = self.bands.lend(&lent.table, to_end(random));
+        let loaded = rattle::load_bands(table);
+        let mut held = kept("a table that is loaded", table, &lent.table)
+            .and_then(|()| lent.hold_loaded(loaded));
+
+        self.count();
+        let table = self.bands.lend(&lent.table, to_end(random));
+        let timingr = self.left.lend_numbers(random.word(), to_end(random));
+        let number = rattle::timing_by_bands_into(table, lent.clock, lent.frequency, timingr);
+        held = held
+            .and_then(|()| kept("the table of a timing", table, &lent.table))
+            .and_then(|()| lent.hold_timing(number, *timingr, &mut self.timings));
+        held.map_err(|wrong| format!("call {}: {wrong}\n{lent:X?}", self.calls))
     }
 
     fn begin(&mut self, lent: &Bytes, random: &mut Random) -> Result<(), String> {
@@ -421,6 +450,18 @@ impl Bytes {
 #[cfg(test)]
 mod tests {
     use super::*;
+
+    #[test]
+    fn bands_are_lent_at_guards() {
+        for heap in [false, true] {
+            let mut boundary = Boundary::new(heap);
+            let mut random = Random::new(1);
+            for _ in 0..2_000 {
+                assert_eq!(boundary.bands(&mut random), Ok(()));
+            }
+            assert!(boundary.timings.all_reached(), "{:?}", boundary.timings);
+        }
+    }
 
     #[test]
     fn pages_are_laid_out_at_guards() {

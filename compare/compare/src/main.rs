@@ -1,6 +1,7 @@
 //! Compares the Rattle library with the Rust driver.
 
 mod answer;
+mod bands;
 mod bench;
 mod calls;
 mod damaged;
@@ -28,6 +29,8 @@ const USAGE: &str = "usage: compare timing [--pairs N] [--seed S]
        compare page [--logs N] [--seed S]
        compare page-program --program FILE [--logs N] [--seed S]
        compare page-text --file FILE
+       compare bands [--cases N] [--seed S]
+       compare bands-program --program FILE [--tables N] [--seed S]
        compare bench --program FILE [--page] [--files N] [--seed S]
        compare bench-text --file FILE [--page]
        compare store-timing --inputs FILE --answers FILE [--check]
@@ -49,7 +52,8 @@ fn main() -> ExitCode {
 /// Whether the command found all well, or what is wrong with its arguments or files.
 fn command(mut arguments: Arguments) -> Result<bool, String> {
     let command = arguments.first()?;
-    if let "timing" | "packing" | "runs" | "speed" | "damaged" | "page" = command.as_str() {
+    if let "timing" | "packing" | "runs" | "speed" | "damaged" | "page" | "bands" = command.as_str()
+    {
         rattle::check_library()?;
     }
     match command.as_str() {
@@ -117,6 +121,19 @@ fn command(mut arguments: Arguments) -> Result<bool, String> {
             let file = arguments.needed("--file")?;
             arguments.none_left()?;
             page::print_file(&file).map_err(|error| format!("{file}: {error}"))
+        }
+        "bands" => {
+            let cases = arguments.number("--cases", 200_000)?;
+            let seed = arguments.number("--seed", 1)?;
+            arguments.none_left()?;
+            Ok(bands::compare(cases, seed))
+        }
+        "bands-program" => {
+            let program = arguments.needed("--program")?;
+            let tables = arguments.number("--tables", 300)?;
+            let seed = arguments.number("--seed", 1)?;
+            arguments.none_left()?;
+            bands::compare_program(tables, seed, &program).map_err(|error| error.to_string())
         }
         "store-timing" => store(arguments, store::timing()),
         "store-calls" => store(arguments, calls::sample::texts()),

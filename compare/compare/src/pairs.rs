@@ -2,15 +2,10 @@
 
 use std::collections::HashSet;
 
+use crate::bands::examples::DOCUMENT_01;
 use crate::random::Random;
 
 pub type Pair = (u32, u32);
-
-/// The highest frequency of each band.
-pub const BANDS: [u32; 5] = [7_999, 79_999, 100_000, 400_000, u32::MAX];
-
-/// The least clock of each band.
-const LEAST_CLOCKS: [u32; 5] = [2_000_000, 2_000_000, 2_000_000, 8_000_000, 17_000_000];
 
 /// The highest clock that is not refused.
 pub const MOST_CLOCK: u32 = 250_000_000;
@@ -35,16 +30,15 @@ const RATIOS: [u32; 6] = [3, 4, 1_536, 1_537, 8_223, 8_224];
 /// Every edge of the rule with its neighbours, crossed with the others.
 pub fn edges() -> Vec<Pair> {
     let mut frequencies = vec![0, 1, 1_000_000, MOST_CLOCK / 4];
-    frequencies.extend(BANDS);
+    frequencies.extend(DOCUMENT_01.map(|row| row.upper_frequency));
     frequencies.extend(CASES.map(|(_, frequency)| frequency));
     let frequencies = with_neighbours(frequencies);
 
     // The quotients at which sdadel and scldel leave their limits, or scldel has none (refusal 6).
     let mut clocks = vec![0, 1, MOST_CLOCK, u32::MAX];
-    clocks.extend(LEAST_CLOCKS);
-    for column in [
-        500_000, 1_000_000, 2_000_000, 3_000_000, 4_000_000, 8_000_000,
-    ] {
+    clocks.extend(DOCUMENT_01.map(|row| row.least_clock));
+    let columns = DOCUMENT_01.map(|row| [row.sdadel_divisor, row.scldel_divisor]);
+    for &column in columns.as_flattened() {
         for prescaler in 1..=16 {
             clocks.extend([1, 2, 5, 6, 15, 16, 17].map(|quotient| column * prescaler * quotient));
         }
@@ -53,7 +47,7 @@ pub fn edges() -> Vec<Pair> {
 
     // The ratios at which the prescaler steps.
     let mut ratios = RATIOS.to_vec();
-    for divisor in [64, 96, 128, 256] {
+    for divisor in DOCUMENT_01.map(|row| row.d) {
         ratios.extend((1..=16).flat_map(|step| [divisor * step, divisor * step + 1]));
     }
     ratios.sort_unstable();
@@ -113,11 +107,11 @@ pub fn sample() -> Vec<Pair> {
     let mut pairs = CASES.to_vec();
     pairs.extend([(0, 0), (u32::MAX, 0), (0, 1), (u32::MAX, u32::MAX)]);
     let mut frequencies = vec![1_000, 1_000_000];
-    for highest in &BANDS[..4] {
-        frequencies.extend([*highest, highest + 1]);
+    for row in &DOCUMENT_01[..4] {
+        frequencies.extend([row.upper_frequency, row.upper_frequency + 1]);
     }
     for frequency in frequencies {
-        let mut clocks = with_neighbours(LEAST_CLOCKS.to_vec());
+        let mut clocks = with_neighbours(DOCUMENT_01.map(|row| row.least_clock).to_vec());
         clocks.extend([MOST_CLOCK, MOST_CLOCK + 1]);
         clocks.extend(RATIOS.map(|ratio| ratio.saturating_mul(frequency)));
         pairs.extend(clocks.into_iter().map(|clock| (clock, frequency)));

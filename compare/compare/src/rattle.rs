@@ -169,6 +169,14 @@ extern "C" {
         page_len: u64,
         length: *mut u64,
     ) -> u32;
+    fn huskerivory_load_bands(bands: *const u8, bands_len: u64) -> u32;
+    fn huskerivory_timing_by_bands(
+        bands: *const u8,
+        bands_len: u64,
+        clock: u32,
+        frequency: u32,
+        timingr: *mut u32,
+    ) -> u32;
 
     fn huskerivory_begin(
         description: *const Description,
@@ -248,7 +256,7 @@ pub const UNWRITTEN_FIELDS: Fields = Fields {
     scll: 0xA5,
 };
 
-// SAFETY, of the next four: each pointer and length are those of one slice, which is never at null,
+// SAFETY, of the next six: each pointer and length are those of one slice, which is never at null,
 // or of a struct or number that is borrowed; the borrows keep what is written apart from all else,
 // and nothing is kept after the call.
 
@@ -263,6 +271,30 @@ pub fn page(log: &[u8], page: &mut [u8], length: &mut u64) -> u32 {
             length,
         )
     }
+}
+
+/// 0 if the table is accepted, else a refusal's number.
+pub fn load_bands(bands: &[u8]) -> u32 {
+    unsafe { huskerivory_load_bands(bands.as_ptr(), bands.len() as u64) }
+}
+
+/// The refusal; the word is left where it is told.
+pub fn timing_by_bands_into(bands: &[u8], clock: u32, frequency: u32, timingr: &mut u32) -> u32 {
+    unsafe {
+        huskerivory_timing_by_bands(
+            bands.as_ptr(),
+            bands.len() as u64,
+            clock,
+            frequency,
+            timingr,
+        )
+    }
+}
+
+pub fn timing_by_bands(bands: &[u8], clock: u32, frequency: u32) -> Answer {
+    let mut timingr = u32::MAX;
+    let refusal = timing_by_bands_into(bands, clock, frequency, &mut timingr);
+    answer(refusal, timingr)
 }
 
 /// Begins a call: 0 and the saved call, or a refusal's number and, where there is room for one, the

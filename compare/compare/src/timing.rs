@@ -1,11 +1,14 @@
-//! `compare timing`: the driver's timing rule beside Rattle's.
+//! `compare timing`: the driver's timing rule beside Rattle's, and beside the timing by a table of
+//! document 01's five bands (document 02, R-4): Rattle's, and the one read from the documents.
 
 mod above;
 
 use oracle::{calc_timing, pack};
 
 use crate::answer::{Answer, Differences, Refusal, Shown};
-use crate::pairs::{self, Pair, BANDS, MOST_CLOCK};
+use crate::bands::examples::DOCUMENT_01;
+use crate::bands::reading;
+use crate::pairs::{self, Pair, MOST_CLOCK};
 use crate::random::Random;
 use crate::rattle;
 use above::Row;
@@ -32,6 +35,7 @@ pub fn compare(least: u64, seed: u64) -> bool {
     let mut tally = Tally::default();
     let mut differences = Differences::default();
     let mut source = Random::new(seed);
+    let bands = reading::table(&DOCUMENT_01);
     let edges = pairs::edges();
     let random = least.saturating_sub(edges.len() as u64);
     println!(
@@ -51,11 +55,18 @@ pub fn compare(least: u64, seed: u64) -> bool {
                 Err(told) => differences.add(size, told),
             }
         }
-        let given = rattle::timing(clock, frequency);
-        differences.compare(size, expected, given, |expected, given| {
-            let (expected, given) = (Shown(expected), Shown(given));
-            format!("{clock} {frequency}: the Rust {expected}, Rattle {given}")
-        });
+        let by_bands = rattle::timing_by_bands(&bands, clock, frequency);
+        let read = reading::timing(&bands, clock, frequency);
+        for (side, given) in [
+            ("Rattle", rattle::timing(clock, frequency)),
+            ("Rattle by the five bands", by_bands),
+            ("what is read from document 02", read),
+        ] {
+            differences.compare(size, expected, given, |expected, given| {
+                let (expected, given) = (Shown(expected), Shown(given));
+                format!("{clock} {frequency}: the Rust {expected}, {side} {given}")
+            });
+        }
         compared += 1;
         if compared.is_multiple_of(100_000) {
             eprintln!(
@@ -76,14 +87,14 @@ pub fn compare(least: u64, seed: u64) -> bool {
 #[derive(Default)]
 struct Tally {
     /// How many pairs each band has, by refusal; refusal 0 stands for an accepted one.
-    pairs: [[u64; 7]; BANDS.len()],
+    pairs: [[u64; 7]; DOCUMENT_01.len()],
     /// How many pairs above the highest clock each row has.
     above: [u64; Row::ALL.len()],
 }
 
 impl Tally {
     fn count(&mut self, frequency: u32, answer: Answer) {
-        let band = BANDS.partition_point(|&highest| highest < frequency);
+        let band = DOCUMENT_01.partition_point(|row| row.upper_frequency < frequency);
         let refusal = answer.err().map_or(0, |refusal| refusal.0);
         self.pairs[band][refusal as usize] += 1;
     }
@@ -94,8 +105,8 @@ impl Tally {
             print!("{:>13}", format!("{refusal} {}", Refusal(refusal).words()));
         }
         println!();
-        for (highest, counts) in BANDS.iter().zip(self.pairs) {
-            print!("{highest:>16}");
+        for (row, counts) in DOCUMENT_01.iter().zip(self.pairs) {
+            print!("{:>16}", row.upper_frequency);
             for count in counts {
                 print!("{count:>13}");
             }

@@ -43,34 +43,14 @@ fn take_line(content: &[u8], line: usize, writes: bool) -> bool {
     true
 }
 
-// The first line up to its comment.
-fn content(text: &[u8]) -> &[u8] {
-    for i in 0..text.len() {
-        if text[i] == b'\n' || text[i] == b'#' {
-            return &text[0..i];
-        }
-    }
-    text
-}
-
-// What follows the first line.
-fn after_line(text: &[u8]) -> &[u8] {
-    for i in 0..text.len() {
-        if text[i] == b'\n' {
-            return &text[i + 1..];
-        }
-    }
-    &text[0..0]
-}
-
 // A text has no more lines than bytes.
 fn take_all(text: &[u8], writes: bool) -> bool {
     let mut rest = text;
     for i in 0..text.len() {
-        if !take_line(content(rest), i + 1, writes) {
+        if !take_line(input::content(rest), i + 1, writes) {
             return false;
         }
-        let next = after_line(rest);
+        let next = input::after_line(rest);
         rest = next;
     }
     true

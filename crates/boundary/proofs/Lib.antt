@@ -1,3 +1,4 @@
+pub mod Timing
 pub mod Answers
 pub mod Demand
 pub mod Restated

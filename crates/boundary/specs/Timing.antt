@@ -10,9 +10,11 @@ use Rattle.timing.specs.declared.Packed.the-variants.{Raw, Refused}
 use Rattle.timing.specs.declared.Timed.{Timed}
 use Rattle.timing.specs.declared.Timed.the-variants.{Timing}
 use Rattle.timing.specs.declared.Timed.the-variants.{Refused as NotTimed}
+use Rattle.bands.specs.declared.Loaded.{Loaded}
+use Rattle.bands.specs.declared.Loaded.the-variants.{Accepted, Refused as NotLoaded}
 use Rattle.boundary.specs.declared.TimingAnswer.{TimingAnswer}
 
--- A TIMINGR word and refusal 0, or word 0 and document 01's number of the refusal.
+-- A TIMINGR word and refusal 0, or word 0 and the number of the refusal.
 abbrev pub answer : ℕ → ℕ → TimingAnswer
 answer refusal timingr = record { refusal = refusal; timingr = timingr }
 
@@ -24,7 +26,12 @@ abbrev pub timedAnswer : Timed → TimingAnswer
 timedAnswer (Timing t) = answer 0 (timingrWord t)
 timedAnswer (NotTimed why) = answer (timingRefusalNumber why) 0
 
--- What the code does with a timing: it packs it. That this is never refused is `timing-packs` of the crate `timing`.
+-- 0 for a table that is accepted.
+abbrev pub loadedAnswer : Loaded → ℕ
+loadedAnswer Accepted = 0
+loadedAnswer (NotLoaded why) = timingRefusalNumber why
+
+-- What the code does with a timing: it packs it. That this is never refused is `bands-fit` of the crate `bands`.
 abbrev pub packedTimed : Timed → TimingAnswer
 packedTimed (Timing t) = packedAnswer (packOf t)
 packedTimed (NotTimed why) = answer (timingRefusalNumber why) 0

@@ -7,10 +7,13 @@ ghost use Rattle.timing.specs.Bands.{timingOf};
 ghost use Rattle.timing.specs.Refusals.{timingRefusalNumber};
 ghost use Rattle.timing.specs.Timingr.{packOf, unpackOf};
 ghost use Rattle.words.specs.Words.{Below};
+ghost use Rattle.bands.specs.Bands.{loadedOf, timingBy};
+ghost use Rattle.bands.specs.Table.{bandsIn};
 ghost use Rattle.boundary.specs.Abi.{asAbiLeft, abiLeft};
 ghost use Rattle.boundary.specs.Calls.{descriptionOf, operationsIn, asBeginLeft, beginLeftIn, kindAndValue, accessIn, asAdvanceLeft, advanceLeftIn};
 ghost use Rattle.boundary.specs.Page.{asPageLeft, pageLeftIn};
-ghost use Rattle.boundary.specs.Timing.{answer, packedAnswer, packedTimed, timedAnswer, timingIn, fieldsOf};
+ghost use Rattle.boundary.specs.Timing.{answer, packedAnswer, packedTimed, timedAnswer, loadedAnswer, timingIn, fieldsOf};
+use bands::Loaded;
 use timing::I2cTiming;
 use timing::Packed;
 use timing::RawTimingr;
@@ -78,7 +81,40 @@ pub extern "C" fn huskerivory_timing(clock: u32, frequency: u32, timingr: &mut u
     ensures { λ r. ⌜ answer r (now (timingr .exit)) ≡ timedAnswer (timingOf clock frequency) ⌝ }
 {
     tell(
-        timed_answer(timing::calc_timing_params(clock, frequency)),
+        timed_answer(bands::calc_timing_params(clock, frequency)),
+        timingr,
+    )
+}
+
+fn loaded_answer(l: Loaded) -> u32
+    ensures { λ r. ⌜ r ≡ loadedAnswer l ⌝ }
+{
+    match l {
+        Loaded::Accepted => 0,
+        Loaded::Refused(why) => why.number(),
+    }
+}
+
+// Looks at a board's own table of speed bands, 24 bytes to a row. 0, or 16.
+#[no_mangle]
+pub extern "C" fn huskerivory_load_bands(bands: &[u8]) -> u32
+    ensures { λ r. ⌜ r ≡ loadedAnswer (loadedOf (bandsIn (now (bands .entry)))) ⌝ }
+{
+    loaded_answer(bands::load(bands))
+}
+
+// As `huskerivory_timing`, by a board's own table, which is looked at whole; 16 and 17 are refusals too.
+#[no_mangle]
+pub extern "C" fn huskerivory_timing_by_bands(
+    bands: &[u8],
+    clock: u32,
+    frequency: u32,
+    timingr: &mut u32,
+) -> u32
+    ensures { λ r. ⌜ answer r (now (timingr .exit)) ≡ timedAnswer (timingBy (bandsIn (now (bands .entry))) clock frequency) ⌝ }
+{
+    tell(
+        timed_answer(bands::timing_by(bands, clock, frequency)),
         timingr,
     )
 }

@@ -1,4 +1,4 @@
-// Input that is read whole.
+// Input that is read whole, and the lines of a text.
 ghost use Rattle.io.specs.Counts.{Counts};
 
 // How many bytes came, and whether no read failed.
@@ -35,4 +35,24 @@ pub fn start(bytes: &[u8], n: usize) -> &[u8] {
     } else {
         bytes
     }
+}
+
+// The first line up to its comment, which `#` begins.
+pub fn content(text: &[u8]) -> &[u8] {
+    for i in 0..text.len() {
+        if text[i] == b'\n' || text[i] == b'#' {
+            return &text[0..i];
+        }
+    }
+    text
+}
+
+// What follows the first line.
+pub fn after_line(text: &[u8]) -> &[u8] {
+    for i in 0..text.len() {
+        if text[i] == b'\n' {
+            return &text[i + 1..];
+        }
+    }
+    &text[0..0]
 }

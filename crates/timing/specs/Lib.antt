@@ -1,4 +1,3 @@
 pub mod Refusals
 pub mod Timingr
 pub mod Bands
-pub mod Bounds

@@ -1,15 +1,14 @@
 // Prints the timing of a clock and a bus frequency, both in hertz: of the two arguments or, where
-// there are none, of each line of standard input.
+// there are none, of each line of standard input. With `--bands FILE` before the two arguments it is
+// the timing by the bands of that file (rows.rt).
+mod file;
+mod rows;
+mod show;
+
 ghost use Rattle.io.specs.Counts.{Counts};
-use libc::STDERR_FILENO;
 use libc::STDIN_FILENO;
-use libc::STDOUT_FILENO;
 use numerals::Parsed;
-use timing::I2cTiming;
-use timing::Packed;
-use timing::RawTimingr;
-use timing::Timed;
-use timing::TimingRefusal;
+use show::complain;
 
 // The longest line that is read; a longer one counts as not two numbers.
 const LINE: usize = 256;
@@ -26,63 +25,12 @@ enum Pair {
     NotNumbers,
 }
 
-fn print(text: &[u8]) {
-    io::write_all(STDOUT_FILENO, text);
-}
-
-fn complain(text: &[u8]) {
-    io::write_all(STDERR_FILENO, text);
-}
-
-fn print_number(n: u32) {
-    io::print_decimal(STDOUT_FILENO, n as u64);
-}
-
-fn print_field(name: &[u8], value: u8) {
-    print(name);
-    print_number(value as u32);
-}
-
-fn print_timing(t: I2cTiming, word: RawTimingr) {
-    print(b" 0x");
-    print(&numerals::hex(word.0));
-    print_field(b" presc ", t.presc);
-    print_field(b" scldel ", t.scldel);
-    print_field(b" sdadel ", t.sdadel);
-    print_field(b" sclh ", t.sclh);
-    print_field(b" scll ", t.scll);
-}
-
-fn print_refusal(r: TimingRefusal) {
-    print(b" refused ");
-    print_number(r.number());
-    match r {
-        TimingRefusal::NoSpeed => print(b" no speed"),
-        TimingRefusal::ClockOver => print(b" clock over"),
-        TimingRefusal::Ratio => print(b" ratio"),
-        TimingRefusal::ClockSlow => print(b" clock slow"),
-        TimingRefusal::SpeedLow => print(b" speed low"),
-        TimingRefusal::NoSetup => print(b" no setup"),
-        TimingRefusal::FieldWide => print(b" field wide"),
-    }
-}
-
-fn print_packed(t: I2cTiming) {
-    match t.pack() {
-        Packed::Raw(word) => print_timing(t, word),
-        Packed::Refused(r) => print_refusal(r),
-    }
-}
-
-fn print_answer(clock: u32, frequency: u32) {
-    print_number(clock);
-    print(b" ");
-    print_number(frequency);
-    match timing::calc_timing_params(clock, frequency) {
-        Timed::Timing(t) => print_packed(t),
-        Timed::Refused(r) => print_refusal(r),
-    }
-    print(b"\n");
+fn answer(clock: u32, frequency: u32) {
+    show::answer(
+        clock,
+        frequency,
+        bands::calc_timing_params(clock, frequency),
+    );
 }
 
 fn parse_two(first: &[u8], second: &[u8]) -> Pair {
@@ -113,7 +61,7 @@ fn refuse(text: &[u8]) {
 
 fn answer_line(line: &[u8]) {
     match parse_line(line) {
-        Pair::Numbers(clock, frequency) => print_answer(clock, frequency),
+        Pair::Numbers(clock, frequency) => answer(clock, frequency),
         Pair::NotNumbers => refuse(line),
     }
 }
@@ -204,20 +152,62 @@ fn answer_input() {
     line.answer();
 }
 
+fn usage() {
+    complain(b"usage: timing_main [[--bands FILE] CLOCK FREQUENCY]\n");
+}
+
+fn refuse_two(first: &[u8], second: &[u8]) {
+    complain(b"not two numbers: ");
+    complain(first);
+    complain(b" ");
+    complain(second);
+    complain(b"\n");
+}
+
+fn is_bands(argument: &[u8]) -> bool {
+    check::same(argument, b"--bands")
+}
+
+fn answer_two(first: &[u8], second: &[u8]) {
+    match parse_two(first, second) {
+        Pair::Numbers(clock, frequency) => answer(clock, frequency),
+        Pair::NotNumbers => refuse_two(first, second),
+    }
+}
+
+fn answer_by_bands(path: &[u8], first: &[u8], second: &[u8]) {
+    match parse_two(first, second) {
+        Pair::Numbers(clock, frequency) => file::answer(path, clock, frequency),
+        Pair::NotNumbers => refuse_two(first, second),
+    }
+}
+
 fn answer_arguments() {
     let mut first = io::buffer();
     let mut second = io::buffer();
     let n = os::arg(1, &mut first);
     let m = os::arg(2, &mut second);
-    match parse_two(&first[..n], &second[..m]) {
-        Pair::Numbers(clock, frequency) => print_answer(clock, frequency),
-        Pair::NotNumbers => {
-            complain(b"not two numbers: ");
-            complain(&first[..n]);
-            complain(b" ");
-            complain(&second[..m]);
-            complain(b"\n");
-        }
+    if is_bands(&first[..n]) {
+        usage();
+    } else {
+        answer_two(&first[..n], &second[..m]);
+    }
+}
+
+// An argument that is longer than a path may be counts as empty.
+fn answer_option() {
+    let mut option = io::buffer();
+    let mut path = io::buffer();
+    let mut first = io::buffer();
+    let mut second = io::buffer();
+    let k = os::arg(1, &mut option);
+    let l = os::arg(2, &mut path);
+    let n = os::arg(3, &mut first);
+    let m = os::arg(4, &mut second);
+    if is_bands(&option[..k]) {
+        answer_by_bands(&path[..l], &first[..n], &second[..m]);
+    } else {
+        usage();
     }
 }
 
@@ -225,6 +215,7 @@ fn main() {
     match os::arg_count() {
         1 => answer_input(),
         3 => answer_arguments(),
-        _ => complain(b"usage: timing_main [CLOCK FREQUENCY]\n"),
+        5 => answer_option(),
+        _ => usage(),
     }
 }

@@ -146,6 +146,15 @@ extern "C" {
     fn huskerivory_pack(fields: *const I2cTiming, timingr: *mut u32) -> u32;
     fn huskerivory_unpack(timingr: u32, fields: *mut I2cTiming);
 
+    fn huskerivory_load_bands(bands: *const u8, length: u64) -> u32;
+    fn huskerivory_timing_by_bands(
+        bands: *const u8,
+        length: u64,
+        clock: u32,
+        frequency: u32,
+        timingr: *mut u32,
+    ) -> u32;
+
     fn huskerivory_page(
         log: *const u8,
         log_len: u64,
@@ -309,8 +318,9 @@ fn report(report: u32, value: u32, awaited: u32) -> Report {
     })
 }
 
-// SAFETY, of the last three: each pointer is that of a local of the size that the library writes or
-// reads, and any bytes are an `I2cTiming`.
+// SAFETY, of the last five: each pointer is that of a local of the size that the library writes or
+// reads, and any bytes are an `I2cTiming`; but that of a table is a slice's, with its size in bytes,
+// which are only read.
 
 pub fn timing(clock: u32, frequency: u32) -> Result<RawTimingr, Refusal> {
     known()?;
@@ -333,6 +343,30 @@ pub fn unpack(raw: RawTimingr) -> Result<I2cTiming, Refusal> {
     Ok(fields)
 }
 
+/// Whether the bytes of a table are accepted.
+pub fn load_bands(bands: &[u8]) -> Result<(), Refusal> {
+    known()?;
+    match unsafe { huskerivory_load_bands(bands.as_ptr(), bytes_of(bands)) } {
+        0 => Ok(()),
+        number => Err(Refusal(number)),
+    }
+}
+
+pub fn timing_by_bands(bands: &[u8], clock: u32, frequency: u32) -> Result<RawTimingr, Refusal> {
+    known()?;
+    let mut timingr = 0;
+    let refusal = unsafe {
+        huskerivory_timing_by_bands(
+            bands.as_ptr(),
+            bytes_of(bands),
+            clock,
+            frequency,
+            &mut timingr,
+        )
+    };
+    word(refusal, timingr)
+}
+
 fn word(refusal: u32, timingr: u32) -> Result<RawTimingr, Refusal> {
     match refusal {
         0 => Ok(RawTimingr(timingr)),
@@ -351,6 +385,33 @@ mod tests {
         assert_eq!((version, sizes), (ABI, SIZES));
         assert_eq!(known(), Ok(()));
         assert_eq!(SIZES, [64, 32, 32, 8, 64, 65_535, 13, 46]);
+    }
+
+    /// Bytes that no `Band` makes: a part of a row, and a shape that is neither.
+    #[test]
+    fn a_table_is_whole_rows_of_known_shapes() {
+        let table = [
+            100_000, 0, 64, 2_000_000, 500_000, 0, 400_000, 0, 96, 1, 1, 1,
+        ];
+        let table = table.map(u32::to_le_bytes);
+        let bytes = table.as_flattened();
+        for length in 0..=bytes.len() {
+            let expected = match length {
+                24 | 48 => Ok(()),
+                _ => Err(Refusal::BAD_BANDS),
+            };
+            assert_eq!(load_bands(&bytes[..length]), expected, "{length} bytes");
+            let timing = timing_by_bands(&bytes[..length], 8_000_000, 100_000);
+            assert_eq!(timing.map(|_| ()), expected, "{length} bytes");
+        }
+        for shape in [2, 3, 0x100, 0x1_0000, 0x8000_0000, u32::MAX] {
+            for row in [0, 1] {
+                let mut table = table;
+                table[6 * row + 5] = shape.to_le_bytes();
+                let refused = load_bands(table.as_flattened());
+                assert_eq!(refused, Err(Refusal::BAD_BANDS), "shape {shape}");
+            }
+        }
     }
 
     #[test]

@@ -21,7 +21,8 @@ pub enum Error {
     Refused(Refusal),
 }
 
-/// Document 01's number of a refusal, document 02's 15, or [`Refusal::LIBRARY`]. 9 is out of use.
+/// Document 01's number of a refusal, document 02's 15, 16 or 17, or [`Refusal::LIBRARY`]. 9 is out
+/// of use.
 #[derive(Clone, Copy, Debug, PartialEq, Eq)]
 pub struct Refusal(pub u32);
 
@@ -37,7 +38,14 @@ impl Refusal {
     /// the lent bytes.
     pub const PAGE: Refusal = Refusal(15);
 
-    /// Its words in document 01, or, of 15, what it is about.
+    /// A board's speed bands are not 1 to 16 rows, their upper frequencies do not rise, a `d` is not
+    /// 8 to 256 or a divisor is 0.
+    pub const BAD_BANDS: Refusal = Refusal(16);
+
+    /// A bus frequency is above the last of a board's speed bands.
+    pub const NO_BAND: Refusal = Refusal(17);
+
+    /// Its words in document 01, or, from 15 on, what it is about.
     pub const fn words(self) -> &'static str {
         match self.0 {
             0 => "another library",
@@ -54,6 +62,8 @@ impl Refusal {
             12 => "no such call",
             13 => "saved call",
             15 => "page",
+            16 => "bad bands",
+            17 => "no band",
             _ => "unknown",
         }
     }

@@ -22,6 +22,9 @@
 //! # }
 //! ```
 //!
+//! The timing goes by document 01's speed bands, or by a board's own ([`Bands`]), where its cables
+//! are long or its edges slow.
+//!
 //! What was read and written can be kept as a log ([`Logged`]) and laid out for paper ([`page()`]),
 //! with every register and field by its name.
 //!
@@ -33,6 +36,7 @@
 #![deny(unsafe_code)]
 #![warn(missing_docs)]
 
+mod bands;
 mod boundary;
 mod controller;
 mod description;
@@ -47,6 +51,7 @@ mod saved_call;
 mod target;
 mod timing;
 
+pub use bands::{Band, Bands, Shape};
 pub use controller::I2c;
 pub use description::{Ack, Address, AddressMode, Description, TargetConfig, TargetListenEvent};
 pub use error::{Error, ErrorKind, NoAcknowledgeSource, Refusal};

@@ -7,7 +7,7 @@ use crate::{boundary, Refusal};
 pub struct RawTimingr(pub u32);
 
 impl RawTimingr {
-    /// The word for a kernel clock and a bus frequency in hertz.
+    /// The word for a kernel clock and a bus frequency in hertz, by document 01's speed bands.
     pub fn for_bus(clock: u32, frequency: u32) -> Result<Self, Refusal> {
         boundary::timing(clock, frequency)
     }

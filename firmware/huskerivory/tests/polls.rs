@@ -181,4 +181,6 @@ fn refusals_have_words() {
     assert_eq!(Refusal(9).words(), "unknown", "9 is out of use");
     assert_eq!(Refusal::BUFFER.to_string(), "refused 11 buffer");
     assert_eq!(Refusal::PAGE.to_string(), "refused 15 page");
+    assert_eq!(Refusal::BAD_BANDS.to_string(), "refused 16 bad bands");
+    assert_eq!(Refusal::NO_BAND.to_string(), "refused 17 no band");
 }

@@ -3,6 +3,8 @@
 
 use oracle::{calc_timing, pack, Fields, Panic, PanicKind};
 
+use crate::bands::examples::document_01;
+use crate::bands::reading::EQUAL;
 use crate::pairs::Pair;
 
 #[derive(Clone, Copy, Debug, PartialEq, Eq)]
@@ -54,15 +56,9 @@ fn expected((clock, frequency): Pair) -> (Row, Result<u32, PanicKind>) {
     if ratio < 4 {
         return (Row::Ratio, Err(PanicKind::Ratio));
     }
-    let (divisor, for_sdadel, for_scldel) = match frequency {
-        ..=7_999 => (256, 2_000_000, 500_000),
-        8_000..=79_999 => (128, 2_000_000, 500_000),
-        80_000..=100_000 => (64, 2_000_000, 500_000),
-        100_001..=400_000 => (96, 3_000_000, 1_000_000),
-        _ => (96, 8_000_000, 4_000_000),
-    };
-    let standard = frequency <= 100_000;
-    let steps = (ratio - 1) / divisor;
+    let band = document_01(frequency);
+    let standard = band.shape == EQUAL;
+    let steps = (ratio - 1) / band.d;
     let presc = if standard { steps.min(15) } else { steps % 256 };
     if presc == 255 {
         return (Row::Overflow, Err(PanicKind::ClockOver));
@@ -76,8 +72,8 @@ fn expected((clock, frequency): Pair) -> (Row, Result<u32, PanicKind>) {
     } else {
         ((cycle - 3) / 3, 2 * ((cycle - 3) / 3 + 1) - 1)
     };
-    let sdadel = clock / for_sdadel / (presc + 1);
-    let scldel = clock / for_scldel / (presc + 1) - 1;
+    let sdadel = clock / band.sdadel_divisor / (presc + 1);
+    let scldel = clock / band.scldel_divisor / (presc + 1) - 1;
     let fields = Fields {
         presc: presc as u8,
         scldel: (scldel as u8).clamp(4, 15),

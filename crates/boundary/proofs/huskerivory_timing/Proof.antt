@@ -1,17 +1,13 @@
 -- `huskerivory_timing` meets its contract: a timing that is worked out is never refused by packing. Assumes nothing.
-use mathlib.Core.Path.{_≡_, refl, ap, _∙_}
-use Rattle.timing.proofs.Fits.{Packs, timing-packs}
+use mathlib.Core.Path.{ap, _∙_}
+use native.Mathlib.Omega.{arith}
+use Rattle.bands.proofs.Fits.{timing-fits}
+use Rattle.boundary.proofs.Timing.{packed}
 use Rattle.timing.specs.Bands.{timingOf}
-use Rattle.timing.specs.declared.Timed.{Timed}
-use Rattle.timing.specs.declared.Timed.the-variants.{Timing, Refused}
-use Rattle.boundary.specs.Timing.{packedAnswer, packedTimed, timedAnswer}
+use Rattle.boundary.specs.Timing.{packedTimed}
 use borrow.Author.Needs.{needs}
 use Rattle.boundary.proofs.huskerivory_timing.Statement.{statement}
 use Rattle.boundary.proofs.huskerivory_timing.Tie as tie
-
-packed : (t : Timed) → Packs t → packedTimed t ≡ timedAnswer t
-packed (Timing t) e = ap packedAnswer e
-packed (Refused why) e = refl
 
 pub huskerivory-timing-spec : {M : Type 1} → statement M
 huskerivory-timing-spec =
@@ -24,4 +20,4 @@ huskerivory-timing-spec =
     let answered = c .before .before in
     let a = answered .before .before .args in
     c .tell .ensures ∙ answered .timed-answer .ensures ∙ ap packedTimed (answered .before .calc-timing-params .ensures)
-    ∙ packed (timingOf (a .clock) (a .frequency)) (timing-packs (a .clock) (a .frequency))))
+    ∙ packed (timingOf (a .clock) (a .frequency)) (timing-fits (a .clock) (a .frequency) (omega arith))))

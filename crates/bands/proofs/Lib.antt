@@ -1,0 +1,9 @@
+pub mod Either
+pub mod Quotients
+pub mod Shapes
+pub mod Tables
+pub mod Five
+pub mod Fits
+pub mod Cases
+pub mod Promised
+pub mod Restated

@@ -1,0 +1,21 @@
+-- `bands::timing_by` meets its contract: each return by the tests that led there. Assumes nothing.
+use borrow.Author.Tests.{not-true, not-false}
+use Rattle.bands.proofs.Tables.{answers, found-sound}
+use borrow.Author.Needs.{needs}
+use Rattle.bands.proofs.timing_by.Statement.{statement}
+use Rattle.bands.proofs.timing_by.Tie as tie
+
+pub timing-by-spec : {M : Type 1} → statement M
+timing-by-spec =
+    tie.close
+    (tie.spec
+    (λ c κs. search needs)
+    (λ c. search (needs, answers, not-true))
+    (λ c. search (needs, answers, not-false))
+    (λ c. search (needs, answers, not-false))
+    (λ c κs. search needs)
+    (λ c. search needs)
+    (λ c κs. search (needs, found-sound, not-false))
+    (λ c. search needs)
+    (λ c. search (needs, answers, not-false))
+    (λ c. search (needs, answers, not-false)))

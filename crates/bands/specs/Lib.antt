@@ -1,0 +1,4 @@
+pub mod Bands
+pub mod Table
+pub mod Promises
+pub mod Bounds
