@@ -9,7 +9,7 @@ use Rattle.timing.proofs.Cases.{Answer, answerOf}
 use Rattle.timing.specs.Bands.{row}
 use Rattle.timing.specs.declared.Band.{Band}
 use Rattle.timing.specs.declared.Shape.the-variants.{Equal, Double}
-use Rattle.bands.specs.Bands.{accepted, settled, shapedIn, inRow, timingBy}
+use Rattle.bands.specs.Bands.{accepted, settled, shapedIn, inRow, byFound, timingBy}
 use Rattle.bands.specs.Table.{bandsIn}
 
 abbrev pub two : List Band
@@ -41,7 +41,7 @@ cases =
     ∷ []
 
 pub worked : map (λ (c : Case). answerOf (timingBy (c .table) (c .clock) (c .frequency))) cases ≡ map (λ (c : Case). c .answer) cases
-unfolding timingBy accepted inRow shapedIn settled putOf withBits
+unfolding timingBy byFound accepted inRow shapedIn settled putOf withBits
 worked = refl
 
 pub as-bytes : bandsIn (bytesOf (50000 ∷ 1000000 ∷ 32 ∷ 1000000 ∷ 250000 ∷ 0 ∷ 200000 ∷ 4000000 ∷ 200 ∷ 2000000 ∷ 800000 ∷ 1 ∷ [])) ≡ two

@@ -14,7 +14,7 @@ use Rattle.timing.specs.declared.Packed.the-variants.{Raw}
 use Rattle.timing.specs.declared.Timed.{Timed}
 use Rattle.timing.specs.declared.Timed.the-variants.{Timing, Refused}
 use Rattle.timing.proofs.Round.{Within, packs}
-use Rattle.bands.specs.Bands.{accepted, heldIn, highIn, lowIn, settled, shapedIn, inRow, bandFor, byRow, timingBy, fiveBands}
+use Rattle.bands.specs.Bands.{accepted, heldIn, highIn, lowIn, settled, shapedIn, inRow, bandFor, byRow, inFound, byFound, timingBy, fiveBands}
 use Rattle.bands.specs.declared.Found.{Found}
 use Rattle.bands.specs.declared.Found.the-variants.{Row, Above}
 use Rattle.bands.proofs.Either.{either}
@@ -58,15 +58,18 @@ in-row-fits : (clock r : ℕ) (b : Band) → Fits (inRow clock r b)
 unfolding inRow
 in-row-fits clock r b = either Fits (ltb clock (b .least)) _ _ (λ _. tt) (λ _. shaped-fits (b .shape) clock r b)
 
-by-row-fits : (clock frequency : ℕ) (found : Found) → Fits (byRow clock frequency found)
-by-row-fits clock frequency (Row b) = either Fits (ltb (clock / frequency) 4) _ _ (λ _. tt) (λ _. in-row-fits clock (clock / frequency) b)
-by-row-fits clock frequency Above = tt
+by-row-fits : (clock frequency : ℕ) (b : Band) → Fits (byRow clock frequency b)
+by-row-fits clock frequency b = either Fits (ltb (clock / frequency) 4) _ _ (λ _. tt) (λ _. in-row-fits clock (clock / frequency) b)
+
+in-found-fits : (clock frequency : ℕ) (found : Found) → Fits (inFound clock frequency found)
+in-found-fits clock frequency (Row b) = by-row-fits clock frequency b
+in-found-fits clock frequency Above = tt
 
 pub bands-fit : (bs : List Band) (clock frequency : ℕ) → Fits (timingBy bs clock frequency)
-unfolding timingBy
+unfolding timingBy byFound
 bands-fit bs clock frequency =
     either Fits (accepted bs) _ _
-    (λ _. either Fits (eqb frequency 0) _ _ (λ _. tt) (λ _. either Fits (ltb 250000000 clock) _ _ (λ _. tt) (λ _. by-row-fits clock frequency (bandFor frequency bs))))
+    (λ _. either Fits (eqb frequency 0) _ _ (λ _. tt) (λ _. either Fits (ltb 250000000 clock) _ _ (λ _. tt) (λ _. in-found-fits clock frequency (bandFor frequency bs))))
     (λ _. tt)
 
 pub timing-fits : (clock frequency : ℕ) → frequency ≤ 4294967295 → Fits (timingOf clock frequency)

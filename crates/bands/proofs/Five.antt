@@ -14,7 +14,7 @@ use Rattle.timing.specs.declared.Shape.the-variants.{Equal, Double}
 use Rattle.timing.specs.declared.Timed.{Timed}
 use Rattle.timing.specs.declared.Timed.the-variants.{Refused}
 use Rattle.timing.specs.declared.TimingRefusal.the-variants.{Ratio}
-use Rattle.bands.specs.Bands.{accepted, bandFor, settled, shapedIn, inRow, byRow, timingBy, fiveBands}
+use Rattle.bands.specs.Bands.{accepted, bandFor, settled, shapedIn, inRow, byRow, byFound, timingBy, fiveBands}
 use Rattle.bands.specs.Bounds.{Sound, Divider}
 use Rattle.bands.specs.declared.Found.{Found}
 use Rattle.bands.specs.declared.Found.the-variants.{Row}
@@ -123,10 +123,14 @@ unfolding inRow inBandOf
 in-row-same clock frequency ratio =
     after (ltb clock (bandOf frequency .least)) _ _ _ (λ e. row-same clock frequency ratio (ltb-false clock (bandOf frequency .least) e))
 
-pub by-row-same : (clock frequency : ℕ)
-    → byRow clock frequency (Row (bandOf frequency)) ≡ cond (ltb (clock / frequency) 4) (Refused Ratio) (inBandOf clock (clock / frequency) (bandOf frequency))
+by-row-same : (clock frequency : ℕ)
+    → byRow clock frequency (bandOf frequency) ≡ cond (ltb (clock / frequency) 4) (Refused Ratio) (inBandOf clock (clock / frequency) (bandOf frequency))
 by-row-same clock frequency =
     after (ltb (clock / frequency) 4) _ _ _ (λ e. in-row-same clock frequency (ltb-false (clock / frequency) 4 e))
+
+pub by-five : (clock frequency : ℕ) → byFound clock frequency (Row (bandOf frequency)) ≡ timingOf clock frequency
+unfolding byFound timingOf
+by-five clock frequency = after (eqb frequency 0) _ _ _ (λ _. after (ltb 250000000 clock) _ _ _ (λ _. by-row-same clock frequency))
 
 -- ---- the table
 row-cond : (t : Bool) (a b : Band) → cond t (Row a) (Row b) ≡ Row (cond t a b)
@@ -138,10 +142,8 @@ found-first frequency [] h = rw (le-leb frequency (above .upper) h)
 found-first frequency (b ∷ bs) h = rw (found-first frequency bs h) (row-cond (leb frequency (b .upper)) b (firstUpTo frequency bs))
 
 pub five-bands : (clock frequency : ℕ) → frequency ≤ 4294967295 → timingBy fiveBands clock frequency ≡ timingOf clock frequency
-unfolding timingBy accepted timingOf bandOf
-five-bands clock frequency h =
-    rw (found-first frequency bands h)
-    (after (eqb frequency 0) _ _ _ (λ _. after (ltb 250000000 clock) _ _ _ (λ _. by-row-same clock frequency)))
+unfolding timingBy accepted bandOf
+five-bands clock frequency h = rw (found-first frequency bands h) (by-five clock frequency)
 
 -- every row of document 01 is sound
 pub five-sound : (frequency : ℕ) → Sound (bandOf frequency)

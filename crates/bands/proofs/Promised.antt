@@ -23,7 +23,7 @@ use Rattle.timing.specs.declared.Shape.the-variants.{Equal, Double}
 use Rattle.timing.specs.declared.Timed.{Timed}
 use Rattle.timing.specs.declared.Timed.the-variants.{Timing, Refused}
 use Rattle.timing.specs.declared.TimingRefusal.the-variants.{BadBands, NoBand}
-use Rattle.bands.specs.Bands.{sound, allSound, risingAbove, rising, accepted, heldIn, highIn, lowIn, settled, shapedIn, inRow, bandFor, byRow, timingBy}
+use Rattle.bands.specs.Bands.{sound, allSound, risingAbove, rising, accepted, heldIn, highIn, lowIn, settled, shapedIn, inRow, bandFor, byRow, inFound, byFound, timingBy}
 use Rattle.bands.specs.Bounds.{Sound, Divider}
 use Rattle.bands.specs.Promises.{rowAt, Rule, Words, BandPromises}
 use Rattle.bands.specs.Table.{shapeOf, shapeNumber, rowWords, tableOf, bandIn, bandsFrom, named, bandsIn}
@@ -132,7 +132,7 @@ in-row-later : (clock r : ℕ) (b : Band) → Later (inRow clock r b)
 unfolding inRow
 in-row-later clock r b = either Later (ltb clock (b .least)) _ _ (λ _. lit< tt) (λ _. shaped-later (b .shape) clock r b)
 
-by-row-later : (clock frequency : ℕ) (b : Band) → Later (byRow clock frequency (Row b))
+by-row-later : (clock frequency : ℕ) (b : Band) → Later (byRow clock frequency b)
 by-row-later clock frequency b = either Later (ltb (clock / frequency) 4) _ _ (λ _. lit< tt) (λ _. in-row-later clock (clock / frequency) b)
 
 -- what can be said of a refusal, by where it was given: 16 by the table, 17 by the rows, the others later
@@ -148,12 +148,12 @@ module _ (bs : List Band) (clock frequency : ℕ) where
   later-told : (t : Timed) → Later t → Told t
   later-told t n = ((λ e. absurd (omega (arith, n, ap numberIn e))), (λ e. absurd (omega (arith, n, ap numberIn e))))
 
-  row-told : accepted bs ≡ true → frequency ≢ 0 → clock ≤ 250000000 → (found : Found) → bandFor frequency bs ≡ found → Told (byRow clock frequency found)
+  row-told : accepted bs ≡ true → frequency ≢ 0 → clock ≤ 250000000 → (found : Found) → bandFor frequency bs ≡ found → Told (inFound clock frequency found)
   row-told a n m (Row b) e = later-told _ (by-row-later clock frequency b)
   row-told a n m Above e = ((λ f. absurd (omega (arith, ap numberIn f))), (λ f. (a, n, m, e)))
 
   told : Told (timingBy bs clock frequency)
-  unfolding timingBy
+  unfolding timingBy byFound
   told =
       either Told (accepted bs) _ _
       (λ a. either Told (eqb frequency 0) _ _ (λ _. later-told _ (lit< tt))
@@ -162,7 +162,7 @@ module _ (bs : List Band) (clock frequency : ℕ) where
       (λ a. ((λ _. a), (λ f. absurd (omega (arith, ap numberIn f)))))
 
   above-first : accepted bs ≡ true → frequency ≢ 0 → clock ≤ 250000000 → bandFor frequency bs ≡ Above → timingBy bs clock frequency ≡ Refused NoBand
-  unfolding timingBy
+  unfolding timingBy byFound
   above-first a n m e = rw (a, ne-eqb frequency 0 n, le-ltb 250000000 clock m, e)
 
 -- no row is found exactly if every row ends below the frequency

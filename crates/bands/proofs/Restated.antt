@@ -1,13 +1,13 @@
 -- What `calc_timing_params`, `load` and `timing_by` give a caller, and what is promised of speed bands, once more and in plain arithmetic:
 -- document 01's table row by row, and a row of a board's own table. Nothing rests on this file: a contract or a promise that loses a
 -- fact, and its proof with it, fails here. Assumes nothing.
-use Prim.Native.Nat.{ℕ, _+_, _-_, _*_, _/_, _%_, _≤_, _<_, min, max}
+use Prim.Native.Nat.{ℕ, zero, suc, _+_, _-_, _*_, _/_, _%_, _≤_, _<_, min, max}
 use native.Mathlib.Omega.{arith}
 use mathlib.Core.Logic.{_≢_}
-use mathlib.Core.Path.{_≡_, refl, sym, ap, _∙_}
+use mathlib.Core.Path.{_≡_, refl, sym, ap, subst, _∙_}
 use mathlib.Core.Bool.{Bool, true, false, cond}
 use mathlib.Core.List.{List, [], _∷_}
-use lib.Dec.{eqb, leb, ltb}
+use lib.Dec.{T, eqb, leb, ltb}
 use lib.ListN.{length}
 use borrow.Author.Tests.{lt-ltb, le-ltb, lt-leb, le-leb, eq-eqb, ne-eqb}
 use borrow.Fn.Kinds
@@ -15,16 +15,19 @@ use borrow.Fn.World
 use contract.Lifetimes.{Lfts}
 use denote.Triple.Clauses
 use Rattle.words.specs.Words.{wordsIn, bytesOf}
-use Rattle.timing.specs.Bands.{timingOf, bandOf, inBandOf, equalAt, doubleAt}
+use Rattle.timing.specs.Bands.{timingOf, bandOf, inBandOf, equalAt, doubleAt, dividerOf}
+use Rattle.timing.specs.Timingr.{rawOf, packOf}
 use Rattle.timing.specs.declared.Band.{Band}
+use Rattle.timing.specs.declared.I2cTiming.{I2cTiming}
+use Rattle.timing.specs.declared.Packed.the-variants.{Raw}
 use Rattle.timing.specs.declared.Shape.{Shape}
 use Rattle.timing.specs.declared.Shape.the-variants.{Equal, Double}
 use Rattle.timing.specs.declared.TimingRefusal.the-variants.{NoSpeed, ClockOver, Ratio, ClockSlow, SpeedLow, NoSetup, BadBands, NoBand}
 use Rattle.timing.specs.declared.Timed.{Timed}
 use Rattle.timing.specs.declared.Timed.the-variants.{Timing, Refused}
-use Rattle.bands.specs.Bands.{accepted, loadedOf, settled, shapedIn, inRow, bandFor, timingBy}
-use Rattle.bands.specs.Promises.{rowAt, Rule}
-use Rattle.bands.specs.Table.{bandsIn}
+use Rattle.bands.specs.Bands.{accepted, heldIn, loadedOf, settled, shapedIn, inRow, bandFor, byFound, timingBy, fiveBands}
+use Rattle.bands.specs.Promises.{rowAt, Rule, Words}
+use Rattle.bands.specs.Table.{tableOf, bandsIn}
 use Rattle.bands.specs.declared.Loaded.the-variants.{Accepted, Refused as NotLoaded}
 use Rattle.bands.specs.declared.Found.the-variants.{Row, Above}
 use Rattle.bands.proofs.Promised.{band-promises}
@@ -175,12 +178,12 @@ module _ (κs : Lfts 1) (a : borrow.Fn.World.ArgsD timing-by.signature κs) (t :
 
   module _ (good : accepted rows ≡ true) where
     pub refused-1-by : bus ≡ 0 → t ≡ Refused NoSpeed
-    unfolding timingBy
+    unfolding timingBy byFound
     refused-1-by e = contract ∙ rw (good, eq-eqb bus 0 e)
 
     module _ (some : bus ≢ 0) where
       pub refused-2-by : 250000000 < kernel → t ≡ Refused ClockOver
-      unfolding timingBy
+      unfolding timingBy byFound
       refused-2-by h = contract ∙ rw (good, ne-eqb bus 0 some, lt-ltb 250000000 kernel h)
 
       module _ (most : kernel ≤ 250000000) where
@@ -190,12 +193,12 @@ module _ (κs : Lfts 1) (a : borrow.Fn.World.ArgsD timing-by.signature κs) (t :
         -- a row that is found: 3, 4, 5, 6 or a timing
         module _ (b : Band) (found : bandFor bus rows ≡ Row b) where
           pub refused-3-by : kernel / bus < 4 → t ≡ Refused Ratio
-          unfolding timingBy
+          unfolding timingBy byFound
           refused-3-by h = contract ∙ rw (good, ne-eqb bus 0 some, le-ltb 250000000 kernel most, found, lt-ltb (kernel / bus) 4 h)
 
           module _ (ratio : 4 ≤ kernel / bus) where
             in-its-row : t ≡ inRow kernel (kernel / bus) b
-            unfolding timingBy
+            unfolding timingBy byFound
             in-its-row = contract ∙ rw (good, ne-eqb bus 0 some, le-ltb 250000000 kernel most, found, le-ltb (kernel / bus) 4 ratio)
 
             pub refused-4-by : kernel < b .least → t ≡ Refused ClockSlow
@@ -265,3 +268,51 @@ no-third-shape = refl
 pub not-whole : (bytes : List ℕ) → length bytes % 24 ≢ 0 → bandsIn bytes ≡ []
 unfolding bandsIn
 not-whole bytes n = rw (ne-eqb (length bytes % 24) 0 n)
+
+-- ---- What is promised, once more
+
+true-not-false : true ≡ false → ⊥
+true-not-false e = subst T e tt
+
+pub never-16 : (bs : List Band) (clock frequency : ℕ) → Rule bs → timingBy bs clock frequency ≢ Refused BadBands
+never-16 bs clock frequency R e =
+    absurd (true-not-false (sym (band-promises .accepts bs R) ∙ band-promises .bad-only bs clock frequency e))
+
+-- 17 comes before 3: of an accepted table whose one row ends at 9, at a clock of 0
+pub seventeen-before-three : (b : Band) → Rule (b ∷ []) → b .upper ≡ 9 → timingBy (b ∷ []) 0 10 ≡ Refused NoBand
+seventeen-before-three b R e = band-promises .above-first (b ∷ []) 0 10 (band-promises .accepts (b ∷ []) R) (omega arith) (omega arith) (λ i h. only i h)
+  where
+    only : (i : ℕ) → i < 1 → rowAt (b ∷ []) i .upper < 10
+    only zero h = rw e (omega arith)
+    only (suc i) h = absurd (omega arith)
+
+pub seventeen-only : (bs : List Band) (clock frequency i : ℕ) → timingBy bs clock frequency ≡ Refused NoBand → i < length bs →
+    (rowAt bs i .upper < frequency) × (frequency ≢ 0) × (clock ≤ 250000000) × (1 ≤ length bs)
+seventeen-only bs clock frequency i e h =
+    (let (a, n, m, f) = band-promises .above-only bs clock frequency e in (f i h, n, m, band-promises .only-so bs a .some))
+
+pub five-at-the-end : (clock : ℕ) → timingBy fiveBands clock 4294967295 ≡ timingOf clock 4294967295
+five-at-the-end clock = band-promises .five clock 4294967295 (omega arith)
+
+pub five-rows : length fiveBands ≡ 5
+five-rows = refl
+
+pub at-least-four : (bs : List Band) → Rule bs → 4 ≤ 4 / heldIn (rowAt bs 0 .shape) (dividerOf 4 (rowAt bs 0 .d))
+at-least-four bs R = band-promises .steps bs 0 4 (band-promises .accepts bs R) (R .some) (omega arith)
+
+pub sum-of-fields : (bs : List Band) (clock frequency : ℕ) (t : I2cTiming) → timingBy bs clock frequency ≡ Timing t →
+    t .presc + t .scldel + t .sdadel + t .sclh + t .scll ≤ 555
+sum-of-fields bs clock frequency t e = (let (a, b, c, d, f) = band-promises .fits bs clock frequency t e in omega arith)
+
+pub packed-whole : (bs : List Band) (clock frequency : ℕ) (t : I2cTiming) → timingBy bs clock frequency ≡ Timing t → packOf t ≡ Raw (rawOf t)
+packed-whole = band-promises .packs
+
+pub one-table : (bs bs′ : List Band) → Words bs → Words bs′ → tableOf bs ≡ tableOf bs′ → bs ≡ bs′
+one-table bs bs′ w w′ e = sym (band-promises .read-back bs w) ∙ ap bandsIn e ∙ band-promises .read-back bs′ w′
+
+-- any two rows of an accepted table, and each of its rows
+pub rule-of-two : (b c : Band) → Rule (b ∷ c ∷ []) → (b .upper < c .upper) × (8 ≤ c .d) × (c .d ≤ 256) × (b .sdadel ≢ 0) × (c .scldel ≢ 0)
+rule-of-two b c R = (R .rises 0 1 (omega arith) (omega arith), R .d-least 1 (omega arith), R .d-most 1 (omega arith), R .sdadel 0 (omega arith), R .scldel 1 (omega arith))
+
+pub at-most-sixteen : (bs : List Band) → accepted bs ≡ true → length bs < 17
+at-most-sixteen bs e = (let h = band-promises .only-so bs e .few in omega arith)

@@ -13,10 +13,10 @@ use Rattle.words.proofs.Turns.{rest}
 use Rattle.timing.specs.declared.Band.{Band}
 use Rattle.timing.specs.declared.Timed.{Timed}
 use Rattle.timing.specs.declared.Timed.the-variants.{Refused}
-use Rattle.timing.specs.declared.TimingRefusal.the-variants.{NoSpeed, ClockOver, BadBands, NoBand}
-use Rattle.bands.specs.Bands.{sound, allSound, risingAbove, rising, accepted, loadedOf, bandFor, byRow, timingBy}
+use Rattle.timing.specs.declared.TimingRefusal.the-variants.{BadBands}
+use Rattle.bands.specs.Bands.{sound, allSound, risingAbove, rising, accepted, loadedOf, bandFor, byFound, timingBy}
 use Rattle.bands.specs.Table.{bandIn, bandsFrom, named, bandsIn}
-use Rattle.bands.specs.Bounds.{Sound, rowStands, rowsStand}
+use Rattle.bands.specs.Bounds.{Sound, SoundIn, rowStands, rowsStand}
 use Rattle.bands.proofs.Either.{either, by-bool}
 use Rattle.bands.specs.declared.Loaded.the-variants.{Accepted, Refused as NotLoaded}
 use Rattle.bands.specs.declared.Found.{Found}
@@ -168,10 +168,6 @@ module _ (bytes : List ℕ) (good : accepted (bandsIn bytes) ≡ true) where
   unfolding bandsIn
   bands-are = shown (eqb (length bytes % 24) 0 && named (length bytes / 24) bytes) (bandsFrom (length bytes / 24) bytes) good
 
-abbrev SoundIn : Found → Type 0
-SoundIn (Row b) = Sound b
-SoundIn Above = Unit {0}
-
 sound-found : (frequency : ℕ) (bs : List Band) → T (allSound bs) → SoundIn (bandFor frequency bs)
 sound-found frequency [] t = tt
 sound-found frequency (b ∷ bs) t =
@@ -197,33 +193,15 @@ module _ (bytes : List ℕ) (t : Bool) (is : t ≡ accepted (bandsIn bytes)) whe
     unfolding timingBy
     bad-bands e = rw (← is, e)
 
-    module _ (good : t ≡ true) where
-      pub no-speed : frequency ≡ 0 → Refused NoSpeed ≡ timingBy (bandsIn bytes) clock frequency
+    module _ (good : t ≡ true) (found : Found) (here : found ≡ bandFor frequency (bandsFrom (length bytes / 24) bytes)) where
+      same-found : found ≡ bandFor frequency (bandsIn bytes)
+      same-found = here ∙ rw (bands-are bytes (sym is ∙ good))
+
+      pub found-sound : SoundIn found
+      found-sound = subst SoundIn (sym same-found) (sound-found frequency (bandsIn bytes) (all-sound (bandsIn bytes) (subst T (sym good ∙ is) tt)))
+
+      pub by-its-row : (answer : Timed) → answer ≡ byFound clock frequency found → answer ≡ timingBy (bandsIn bytes) clock frequency
       unfolding timingBy
-      no-speed z = rw (← is, good, eq-eqb frequency 0 z)
+      by-its-row answer e = e ∙ rw (← is, good, ← same-found)
 
-      pub clock-over : (frequency ≡ 0 → ⊥) → 250000000 < clock → Refused ClockOver ≡ timingBy (bandsIn bytes) clock frequency
-      unfolding timingBy
-      clock-over some h = rw (← is, good, ne-eqb frequency 0 some, lt-ltb 250000000 clock h)
-
-      module _ (found : Found) (here : found ≡ bandFor frequency (bandsFrom (length bytes / 24) bytes)) where
-        same-found : found ≡ bandFor frequency (bandsIn bytes)
-        same-found = here ∙ rw (bands-are bytes (sym is ∙ good))
-
-        pub found-sound : (b : Band) → found ≡ Row b → Sound b
-        found-sound b e =
-            subst SoundIn (sym same-found ∙ e) (sound-found frequency (bandsIn bytes) (all-sound (bandsIn bytes) (subst T (sym good ∙ is) tt)))
-
-        module _ (some : frequency ≡ 0 → ⊥) (most : clock ≤ 250000000) where
-          by-found : byRow clock frequency found ≡ timingBy (bandsIn bytes) clock frequency
-          unfolding timingBy
-          by-found = rw (← is, good, ne-eqb frequency 0 some, le-ltb 250000000 clock most, ← same-found)
-
-          pub by-its-row : (b : Band) (answer : Timed) → found ≡ Row b → answer ≡ byRow clock frequency (Row b)
-              → answer ≡ timingBy (bandsIn bytes) clock frequency
-          by-its-row b answer e f = f ∙ (rw e at by-found)
-
-          pub no-band : found ≡ Above → Refused NoBand ≡ timingBy (bandsIn bytes) clock frequency
-          no-band e = (rw e at by-found)
-
-pub ruleset answers = (loads, not-loaded, bad-bands, no-speed, clock-over, by-its-row, no-band)
+pub ruleset answers = (loads, not-loaded, bad-bands, by-its-row)

@@ -83,17 +83,24 @@ abbrev pub bandFor : ℕ → List Band → Found
 bandFor frequency [] = Above
 bandFor frequency (b ∷ bs) = cond (leb frequency (b .upper)) (Row b) (bandFor frequency bs)
 
-abbrev pub byRow : ℕ → ℕ → Found → Timed
-byRow clock frequency Above = Refused NoBand
-byRow clock frequency (Row b) = cond (ltb (clock / frequency) 4) (Refused Ratio) (inRow clock (clock / frequency) b)
+abbrev pub byRow : ℕ → ℕ → Band → Timed
+byRow clock frequency b = cond (ltb (clock / frequency) 4) (Refused Ratio) (inRow clock (clock / frequency) b)
 
-unfoldable pub timingBy : List Band → ℕ → ℕ → Timed
-timingBy bs clock frequency =
-    cond (accepted bs)
-    (cond (eqb frequency 0) (Refused NoSpeed)
+-- the row that was found, or 17
+abbrev pub inFound : ℕ → ℕ → Found → Timed
+inFound clock frequency (Row b) = byRow clock frequency b
+inFound clock frequency Above = Refused NoBand
+
+-- 1 and 2 before 17, and the others after it
+unfoldable pub byFound : ℕ → ℕ → Found → Timed
+byFound clock frequency found =
+    cond (eqb frequency 0) (Refused NoSpeed)
     (cond (ltb 250000000 clock) (Refused ClockOver)
-    (byRow clock frequency (bandFor frequency bs))))
-    (Refused BadBands)
+    (inFound clock frequency found))
+
+-- and 16 before all of them
+unfoldable pub timingBy : List Band → ℕ → ℕ → Timed
+timingBy bs clock frequency = cond (accepted bs) (byFound clock frequency (bandFor frequency bs)) (Refused BadBands)
 
 -- Document 01's table, its last row ending at 4,294,967,295.
 abbrev pub fiveBands : List Band

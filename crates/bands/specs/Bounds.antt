@@ -11,12 +11,18 @@ use Rattle.timing.specs.declared.Band.{Band}
 use Rattle.words.specs.Words.{wordAt}
 use Rattle.bands.specs.Bands.{sound}
 use Rattle.bands.specs.Table.{bandIn}
+use Rattle.bands.specs.declared.Found.{Found}
+use Rattle.bands.specs.declared.Found.the-variants.{Row, Above}
 
 pub record Sound (b : Band) : Type 0 where
   pub d-least : 8 ≤ b .d
   pub d-most : b .d ≤ 256
   pub sdadel-some : 1 ≤ b .sdadel
   pub scldel-some : 1 ≤ b .scldel
+
+abbrev pub SoundIn : Found → Type 0
+SoundIn (Row b) = Sound b
+SoundIn Above = Unit {0}
 
 -- what a prescaler p leaves of a cycle of r clocks
 pub record Divider (r d p : ℕ) : Type 0 where

@@ -7,8 +7,8 @@ ghost use lib.Dec.{leb};
 ghost use lib.ListN.{length};
 ghost use Rattle.timing.specs.Bands.{row, bandOf, held, dividerOf, fieldsOf, timingOf};
 ghost use Rattle.words.specs.Words.{wordAt};
-ghost use Rattle.bands.specs.Bands.{sound, bandFor, accepted, loadedOf, settled, shapedIn, inRow, byRow, timingBy};
-ghost use Rattle.bands.specs.Bounds.{Sound, Divider, Capped, rowStands, rowsStand};
+ghost use Rattle.bands.specs.Bands.{sound, bandFor, accepted, loadedOf, settled, shapedIn, inRow, byRow, byFound, timingBy};
+ghost use Rattle.bands.specs.Bounds.{Sound, SoundIn, Divider, Capped, rowStands, rowsStand};
 ghost use Rattle.bands.specs.Table.{shapeOf, bandIn, bandsFrom, bandsIn};
 use timing::Band;
 use timing::I2cTiming;
@@ -23,7 +23,7 @@ pub enum Loaded {
 }
 
 // The row of a table that a frequency falls into.
-pub enum Found {
+enum Found {
     Row(Band),
     Above,
 }
@@ -114,7 +114,7 @@ fn capped(r: u32, d: u32) -> u32
     ensures { λ p. ⌜ Capped r d p ⌝ }
 {
     let p = divider(r, d);
-    if p > 16 { 16 } else { p }
+    if p < 16 { p } else { 16 }
 }
 
 // A prescaler is held to 16, so that a half may be too long for its field.
@@ -164,7 +164,7 @@ fn in_row(clock: u32, r: u32, b: Band) -> Timed
 fn by_row(clock: u32, frequency: u32, b: Band) -> Timed
     requires { ⌜ Sound b ⌝ }
     requires { ⌜ 1 ≤ frequency ⌝ }
-    ensures { λ t. ⌜ t ≡ byRow clock frequency (Found.Row b) ⌝ }
+    ensures { λ t. ⌜ t ≡ byRow clock frequency b ⌝ }
 {
     let r = clock / frequency;
     if r < 4 {
@@ -198,9 +198,10 @@ fn band_of(frequency: u32) -> Band
     )
 }
 
-// The timing of a bus at `frequency` from a kernel clock of `clock`, both in hertz, by document 01's bands.
-pub fn calc_timing_params(clock: u32, frequency: u32) -> Timed
-    ensures { λ t. ⌜ t ≡ timingOf clock frequency ⌝ }
+// What is refused before any row, then the row that was found.
+fn by_found(clock: u32, frequency: u32, found: Found) -> Timed
+    requires { ⌜ SoundIn found ⌝ }
+    ensures { λ t. ⌜ t ≡ byFound clock frequency found ⌝ }
 {
     if frequency == 0 {
         return Timed::Refused(TimingRefusal::NoSpeed);
@@ -208,7 +209,17 @@ pub fn calc_timing_params(clock: u32, frequency: u32) -> Timed
     if clock > 250_000_000 {
         return Timed::Refused(TimingRefusal::ClockOver);
     }
-    by_row(clock, frequency, band_of(frequency))
+    match found {
+        Found::Row(b) => by_row(clock, frequency, b),
+        Found::Above => Timed::Refused(TimingRefusal::NoBand),
+    }
+}
+
+// The timing of a bus at `frequency` from a kernel clock of `clock`, both in hertz, by document 01's bands.
+pub fn calc_timing_params(clock: u32, frequency: u32) -> Timed
+    ensures { λ t. ⌜ t ≡ timingOf clock frequency ⌝ }
+{
+    by_found(clock, frequency, Found::Row(band_of(frequency)))
 }
 
 fn shape_of(n: u32) -> Shape
@@ -332,14 +343,5 @@ pub fn timing_by(table: &[u8], clock: u32, frequency: u32) -> Timed
     if !is_accepted(table) {
         return Timed::Refused(TimingRefusal::BadBands);
     }
-    if frequency == 0 {
-        return Timed::Refused(TimingRefusal::NoSpeed);
-    }
-    if clock > 250_000_000 {
-        return Timed::Refused(TimingRefusal::ClockOver);
-    }
-    match find(frequency, table) {
-        Found::Row(b) => by_row(clock, frequency, b),
-        Found::Above => Timed::Refused(TimingRefusal::NoBand),
-    }
+    by_found(clock, frequency, find(frequency, table))
 }

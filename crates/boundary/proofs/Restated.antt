@@ -1,7 +1,7 @@
 -- What the contracts of the eight exported functions say, again and in other words. Nothing rests on this file: it is proved so
 -- that a contract that loses a part is noticed. Assumes nothing.
 use Prim.Native.Nat.{ℕ, _/_, _%_, _^_, _*_, _≤_, _<_}
-use mathlib.Core.Path.{_≡_, refl, ap, _∙_}
+use mathlib.Core.Path.{_≡_, refl, sym, ap, _∙_}
 use mathlib.Core.Bool.{Bool, true, false, not, _&&_, _||_}
 use mathlib.Core.List.{List, [], _∷_, _++_}
 use lib.Dec.{T, eqb, ltb, leb, ltb→lt, lt→ltb, lit<, leb·zero}
@@ -40,6 +40,11 @@ use Rattle.page.specs.declared.Page.the-variants.{Laid, Refused as NotLaid}
 use Rattle.registers.specs.Map.{offsetOf}
 use Rattle.registers.specs.declared.Register.{Register}
 use Rattle.saved.specs.Saved.{savedLength, savedBytes, savedIn, writtenTo}
+use Rattle.bands.proofs.Promised.{band-promises}
+use Rattle.bands.specs.Bands.{accepted, loadedOf, timingBy, fiveBands}
+use Rattle.bands.specs.Promises.{Rule}
+use Rattle.bands.specs.Table.{bandsIn}
+use Rattle.timing.specs.declared.Band.{Band}
 use Rattle.timing.proofs.Round.{Within, packs, unpack-pack, pack-unpack}
 use Rattle.timing.specs.Bands.{timingOf, bandOf, inBandOf, equalAt, doubleAt}
 use Rattle.timing.specs.Refusals.{timingRefusalNumber as timingNumber}
@@ -58,6 +63,10 @@ use Rattle.boundary.specs.declared.call.AccessAnswer.{AccessAnswer}
 use Rattle.boundary.proofs.Demand.{runIn, said, stopped, saved-length, written-here, begin-said, positive, BeginCall, beginning, AdvanceCall, advancing}
 use Rattle.boundary.proofs.huskerivory_abi as abi
 use Rattle.boundary.proofs.huskerivory_abi.Reads as abi-reads
+use Rattle.boundary.proofs.huskerivory_load_bands as load
+use Rattle.boundary.proofs.huskerivory_load_bands.Reads as load-reads
+use Rattle.boundary.proofs.huskerivory_timing_by_bands as by-bands
+use Rattle.boundary.proofs.huskerivory_timing_by_bands.Reads as by-bands-reads
 use Rattle.boundary.proofs.huskerivory_next as next-access
 use Rattle.boundary.proofs.huskerivory_next.Reads as next-reads
 use Rattle.boundary.proofs.huskerivory_page as page
@@ -149,6 +158,53 @@ timing-400-kHz : (C : TimingCall) → let (clock, (frequency, _)) = C .given in
     clock ≡ 250000000 → frequency ≡ 400000 → timed C ≡ record { refusal = 0; timingr = 0x60FB1C39 }
 unfolding timingOf bandOf inBandOf equalAt doubleAt putOf withBits
 timing-400-kHz C e f = C .contract ∙ rw (e, f)
+
+-- ---- a board's own bands: 0 or 16 on loading, and a timing's word, or its refusal's number and no word
+abbrev LoadCall : Type 0
+LoadCall = CameBack load.ended load-reads.Post
+
+module _ (C : LoadCall) where
+  abbrev looked-at : List Band
+  looked-at = (let (bytes, _) = C .given in bandsIn (bytes .now))
+
+  bands-loaded : Rule looked-at → C .gave ≡ 0
+  unfolding loadedOf
+  bands-loaded R = C .contract ∙ rw (band-promises .accepts looked-at R)
+
+  bands-not-loaded : accepted looked-at ≡ false → C .gave ≡ 16
+  unfolding loadedOf
+  bands-not-loaded e = C .contract ∙ rw e
+
+abbrev BandsCall : Type 0
+BandsCall = CameBack by-bands.ended by-bands-reads.Post
+
+module _ (C : BandsCall) where
+  abbrev lent-bands : List Band
+  lent-bands = (let (bytes, _) = C .given in bandsIn (bytes .now))
+
+  abbrev timed-by : TimingAnswer
+  timed-by = (let (_, (_, (_, (timingr, _)))) = C .left in record { refusal = C .gave; timingr = timingr .now })
+
+  bands-word : (t : I2cTiming) → let (_, (clock, (frequency, _))) = C .given in
+      timingBy lent-bands clock frequency ≡ Timing t → timed-by ≡ record { refusal = 0; timingr = timingrWord t }
+  bands-word t e = C .contract ∙ ap timedAnswer e
+
+  bands-refused : (why : timing-refusal.TimingRefusal) → let (_, (clock, (frequency, _))) = C .given in
+      timingBy lent-bands clock frequency ≡ NotTimed why → timed-by ≡ record { refusal = timingNumber why; timingr = 0 }
+  bands-refused why e = C .contract ∙ ap timedAnswer e
+
+  -- with document 01's five bands, what `huskerivory_timing` gives
+  bands-five : (D : TimingCall) → lent-bands ≡ fiveBands → let (_, (clock, (frequency, _))) = C .given in let (clock′, (frequency′, _)) = D .given in
+      clock ≡ clock′ → frequency ≡ frequency′ → frequency < 2 ^ 32 → timed-by ≡ timed D
+  bands-five D b e f h =
+      let (_, (clock, (frequency, _))) = C .given in
+      let (clock′, (frequency′, _)) = D .given in
+      C .contract
+      ∙ ap (λ (bs : List Band). timedAnswer (timingBy bs clock frequency)) b
+      ∙ ap timedAnswer (band-promises .five clock frequency h)
+      ∙ ap (λ (c : ℕ). timedAnswer (timingOf c frequency)) e
+      ∙ ap (λ (g : ℕ). timedAnswer (timingOf clock′ g)) f
+      ∙ sym (D .contract)
 
 -- ---- packing and unpacking undo each other across the boundary, and a field of four bits takes no more than 15
 abbrev PackCall : Type 0

@@ -1,20 +1,21 @@
--- `bands::calc_timing_params` meets its contract: each return by the tests that led there. Assumes nothing.
-use Rattle.fields.proofs.Tests.{tests}
-use Rattle.timing.specs.Bands.{timingOf}
-use Rattle.bands.proofs.Five.{by-row-same, five-sound}
-use mathlib.Core.Path.{subst⁻¹}
+-- `bands::calc_timing_params` meets its contract: the row is one of five sound ones. Assumes nothing.
+use mathlib.Core.Path.{subst⁻¹, ap, _∙_}
+use Rattle.timing.specs.declared.Band.{Band}
+use Rattle.bands.specs.Bands.{byFound}
 use Rattle.bands.specs.Bounds.{Sound}
+use Rattle.bands.specs.declared.Found.the-variants.{Row}
+use Rattle.bands.proofs.Five.{by-five, five-sound}
 use borrow.Author.Needs.{needs}
 use Rattle.bands.proofs.calc_timing_params.Statement.{statement}
 use Rattle.bands.proofs.calc_timing_params.Tie as tie
 
 pub calc-timing-params-spec : {M : Type 1} → statement M
-unfolding timingOf
 calc-timing-params-spec =
     tie.close
     (tie.spec
-    (λ c. search (needs, tests))
-    (λ c. search (needs, tests))
     (λ c κs. search needs)
-    (λ c κs. (subst⁻¹ Sound (c .band-of .ensures) (five-sound _), search needs))
-    (λ c. search (tests, c .by-row .ensures, c .before .band-of .ensures, by-row-same)))
+    (λ c κs. subst⁻¹ Sound (c .band-of .ensures) (five-sound _))
+    (λ c.
+    let a = c .before .before .args in
+    c .by-found .ensures ∙ ap (λ (b : Band). byFound (a .clock) (a .frequency) (Row b)) (c .before .band-of .ensures)
+    ∙ by-five (a .clock) (a .frequency)))
