@@ -7,7 +7,7 @@ use mathlib.Core.Path.{_≡_, refl, sym, _∙_}
 use mathlib.Core.Bool.{Bool, true, false, cond}
 use mathlib.Core.List.{List, [], _∷_, _++_}
 use lib.Dec.{eqb, leb, ltb}
-use borrow.Author.Tests.{lt-ltb, le-ltb, lt-leb, le-leb, ne-eqb, ltb-false, leb-true, leb-false, eqb-false}
+use borrow.Author.Tests.{lt-leb, le-leb, ne-eqb, ltb-false, leb-true, leb-false}
 use Rattle.timing.specs.Bands.{bands, above, firstUpTo, bandOf, dividerOf, equalAt, doubleAt, shapedOf, inBandOf, timingOf}
 use Rattle.timing.specs.declared.Band.{Band}
 use Rattle.timing.specs.declared.Shape.the-variants.{Equal, Double}
@@ -16,7 +16,6 @@ use Rattle.timing.specs.declared.Timed.the-variants.{Refused}
 use Rattle.timing.specs.declared.TimingRefusal.the-variants.{Ratio}
 use Rattle.bands.specs.Bands.{accepted, bandFor, settled, shapedIn, inRow, byRow, byFound, timingBy, fiveBands}
 use Rattle.bands.specs.Bounds.{Sound, Divider}
-use Rattle.bands.specs.declared.Found.{Found}
 use Rattle.bands.specs.declared.Found.the-variants.{Row}
 use Rattle.bands.proofs.Either.{either, by-bool}
 use Rattle.bands.proofs.Quotients.{quot-ge, quot-lt, divides, most-steps}

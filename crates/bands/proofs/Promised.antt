@@ -1,20 +1,19 @@
 -- What `BandPromises` promises. Assumes nothing.
-use Prim.Native.Nat.{ℕ, zero, suc, _+_, _*_, _/_, _%_, _≤_, _<_, min}
+use Prim.Native.Nat.{ℕ, zero, suc, _*_, _/_, _%_, _≤_, _<_}
 use native.Mathlib.Omega.{arith}
 use mathlib.Core.Logic.{_≢_}
 use mathlib.Core.Path.{_≡_, refl, sym, ap, subst, _∙_}
 use mathlib.Core.Bool.{Bool, true, false, cond, _&&_, _||_}
-use mathlib.Core.List.{List, [], _∷_, _++_, append-assoc}
+use mathlib.Core.List.{List, [], _∷_, _++_}
 use lib.Dec.{T, eqb, leb, ltb, leb→le, ltb→lt, lit<}
-use lib.ListN.{length, getD, drop, length-append}
+use lib.ListN.{length, drop, length-append}
 use lib.Seq.{drop-append-seam}
-use borrow.Author.Tests.{lt-ltb, le-ltb, lt-leb, le-leb, eq-eqb, ne-eqb, ltb-true, ltb-false, leb-false, eqb-false}
+use borrow.Author.Tests.{lt-ltb, le-ltb, lt-leb, le-leb, eq-eqb, ne-eqb, ltb-false, leb-false, eqb-false}
 use Rattle.fields.proofs.Laws.{and-l, and-r}
 use Rattle.words.proofs.Round.{words-before}
-use Rattle.words.proofs.Turns.{length-bytes}
 use Rattle.words.specs.Words.{wordsIn, wordAt, bytesOf, Below}
 use Rattle.timing.proofs.Round as round
-use Rattle.timing.specs.Bands.{above, dividerOf, fieldsOf, timingOf}
+use Rattle.timing.specs.Bands.{above, dividerOf}
 use Rattle.timing.specs.Refusals.{timingRefusalNumber}
 use Rattle.timing.specs.declared.Band.{Band}
 use Rattle.timing.specs.declared.I2cTiming.{I2cTiming}
@@ -24,13 +23,13 @@ use Rattle.timing.specs.declared.Timed.{Timed}
 use Rattle.timing.specs.declared.Timed.the-variants.{Timing, Refused}
 use Rattle.timing.specs.declared.TimingRefusal.the-variants.{BadBands, NoBand}
 use Rattle.bands.specs.Bands.{sound, allSound, risingAbove, rising, accepted, heldIn, highIn, lowIn, settled, shapedIn, inRow, bandFor, byRow, inFound, byFound, timingBy}
-use Rattle.bands.specs.Bounds.{Sound, Divider}
+use Rattle.bands.specs.Bounds.{Sound}
 use Rattle.bands.specs.Promises.{rowAt, Rule, Words, BandPromises}
 use Rattle.bands.specs.Table.{shapeOf, shapeNumber, rowWords, tableOf, bandIn, bandsFrom, named, bandsIn}
 use Rattle.bands.specs.declared.Found.{Found}
 use Rattle.bands.specs.declared.Found.the-variants.{Row, Above}
 use Rattle.bands.proofs.Either.{either}
-use Rattle.bands.proofs.Fits.{Fits, bands-fit, fits-packs}
+use Rattle.bands.proofs.Fits.{Fits, bands-fit}
 use Rattle.bands.proofs.Five.{five-bands}
 use Rattle.bands.proofs.Quotients.{divides, quot-ge}
 use Rattle.bands.proofs.Tables.{sound-row}

@@ -29,7 +29,7 @@ use Rattle.bands.specs.Bands.{accepted, heldIn, loadedOf, settled, shape
 use Rattle.bands.specs.Promises.{rowAt, Rule, Words}
 use Rattle.bands.specs.Table.{tableOf, bandsIn}
 use Rattle.bands.specs.declared.Loaded.the-variants.{Accepted, Refused as NotLoaded}
-use Rattle.bands.specs.declared.Found.the-variants.{Row, Above}
+use Rattle.bands.specs.declared.Found.the-variants.{Row}
 use Rattle.bands.proofs.Promised.{band-promises}
 use Rattle.bands.proofs.Shapes.{prescaler-over, high-over, all-fit}
 use Rattle.bands.proofs.calc_timing_params as calc

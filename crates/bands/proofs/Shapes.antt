@@ -7,7 +7,6 @@ use lib.Dec.{ltb}
 use Rattle.timing.specs.Bands.{dividerOf}
 use Rattle.timing.specs.declared.Band.{Band}
 use Rattle.timing.specs.declared.Shape.{Shape}
-use Rattle.timing.specs.declared.Timed.{Timed}
 use Rattle.timing.specs.declared.Timed.the-variants.{Refused}
 use Rattle.timing.specs.declared.TimingRefusal.the-variants.{SpeedLow}
 use Rattle.bands.specs.Bands.{heldIn, highIn, lowIn, settled, shapedIn}

@@ -1,7 +1,7 @@
 -- The timing by a board's own speed bands (document 02, R-4), kernel clock and bus frequency in hertz. A row has document 01's columns:
 -- upper frequency, least clock, d, the divisors of SDADEL and SCLDEL, and its shape. All divisions are whole. Document 01's own rule
 -- is `timingOf` of the crate `timing`; with `fiveBands` the two are the same. Assumes nothing.
-use Prim.Native.Nat.{ℕ, _+_, _-_, _*_, _/_, min, max}
+use Prim.Native.Nat.{ℕ, _+_, _-_, _*_, _/_, min}
 use mathlib.Core.Bool.{Bool, true, cond, _&&_, _||_}
 use mathlib.Core.List.{List, [], _∷_, _++_}
 use lib.Dec.{eqb, leb, ltb}

@@ -1,12 +1,9 @@
 // The timing of a bus from a kernel clock and a bus frequency, by rows of speed bands: document 01's five, or a table that a board's maker
 // supplies (document 02, R-4). Every table, clock and frequency has an answer, which is a numbered refusal where no timing is right.
 ghost use mathlib.Core.Path.{_≡_};
-ghost use mathlib.Core.Bool.{_&&_};
-ghost use Prim.Native.Nat.{_+_, _-_, _*_, _/_, _≤_, _<_, min};
-ghost use lib.Dec.{leb};
+ghost use Prim.Native.Nat.{_-_, _/_, _≤_};
 ghost use lib.ListN.{length};
-ghost use Rattle.timing.specs.Bands.{row, bandOf, held, dividerOf, fieldsOf, timingOf};
-ghost use Rattle.words.specs.Words.{wordAt};
+ghost use Rattle.timing.specs.Bands.{row, bandOf, held, fieldsOf, timingOf};
 ghost use Rattle.bands.specs.Bands.{sound, bandFor, accepted, loadedOf, settled, shapedIn, inRow, byRow, byFound, timingBy};
 ghost use Rattle.bands.specs.Bounds.{Sound, SoundIn, Divider, Capped, rowStands, rowsStand};
 ghost use Rattle.bands.specs.Table.{shapeOf, bandIn, bandsFrom, bandsIn};
@@ -99,6 +96,7 @@ fn settle(clock: u32, b: Band, p: u32, sclh: u8, scll: u8) -> Timed
     Timed::Timing(fields_of(clock, b, p, sclh, scll))
 }
 
+// How often d goes into a cycle of r clocks, rounded up.
 fn divider(r: u32, d: u32) -> u32
     requires { ⌜ 4 ≤ r ⌝ }
     requires { ⌜ (8 ≤ d) × (d ≤ 256) ⌝ }
@@ -161,6 +159,7 @@ fn in_row(clock: u32, r: u32, b: Band) -> Timed
     }
 }
 
+// The timing in a row, from the ratio on.
 fn by_row(clock: u32, frequency: u32, b: Band) -> Timed
     requires { ⌜ Sound b ⌝ }
     requires { ⌜ 1 ≤ frequency ⌝ }
@@ -173,6 +172,7 @@ fn by_row(clock: u32, frequency: u32, b: Band) -> Timed
     in_row(clock, r, b)
 }
 
+// Document 01's row of a frequency.
 fn band_of(frequency: u32) -> Band
     ensures { λ b. ⌜ b ≡ bandOf frequency ⌝ }
 {
@@ -291,6 +291,7 @@ fn stand_above(last: u32, rows: &[u8]) -> bool
     true
 }
 
+// The first row has none before it.
 fn is_accepted(table: &[u8]) -> bool
     ensures { λ r. ⌜ r ≡ accepted (bandsIn (now (table .entry))) ⌝ }
 {
