@@ -1,4 +1,4 @@
--- What the contracts of the eight exported functions say, again and in other words. Nothing rests on this file: it is proved so
+-- What the contracts of the ten exported functions say, again and in other words. Nothing rests on this file: it is proved so
 -- that a contract that loses a part is noticed. Assumes nothing.
 use Prim.Native.Nat.{ℕ, _/_, _%_, _^_, _*_, _≤_, _<_}
 use mathlib.Core.Path.{_≡_, refl, sym, ap, _∙_}
