@@ -3,7 +3,7 @@
 use Prim.Native.Nat.{ℕ, _+_, _-_, _*_, _/_, _≤_, _<_, min}
 use native.Mathlib.Nat.{div-mul-le-self, mul-le-mul-left, mul-le-mul-right}
 use native.Mathlib.Omega.{arith}
-use mathlib.Core.Path.{_≡_, refl, sym, _∙_}
+use mathlib.Core.Path.{_≡_, refl, sym, subst, _∙_}
 use mathlib.Core.Bool.{Bool, true, false, cond}
 use mathlib.Core.List.{List, [], _∷_, _++_}
 use lib.Dec.{eqb, leb, ltb}
@@ -15,11 +15,11 @@ use Rattle.timing.specs.declared.Timed.{Timed}
 use Rattle.timing.specs.declared.Timed.the-variants.{Refused}
 use Rattle.timing.specs.declared.TimingRefusal.the-variants.{Ratio}
 use Rattle.bands.specs.Bands.{accepted, bandFor, settled, shapedIn, inRow, byRow, byFound, timingBy, fiveBands}
-use Rattle.bands.specs.Bounds.{Sound, Divider}
+use Rattle.bands.specs.Bounds.{Sound, SoundIn, Divider}
 use Rattle.bands.specs.declared.Found.the-variants.{Row}
 use Rattle.bands.proofs.Either.{either, by-bool}
 use Rattle.bands.proofs.Quotients.{quot-ge, quot-lt, divides, most-steps}
-use Rattle.bands.proofs.Tables.{sound-row}
+use Rattle.bands.proofs.Tables.{sound-row, sound-found}
 use Rattle.bands.proofs.Shapes.{prescaler-over, high-over, all-fit}
 
 by-limit : {P : Type 0} (k r : ℕ) → (k ≤ r → P) → (r < k → P) → P
@@ -144,11 +144,7 @@ pub five-bands : (clock frequency : ℕ) → frequency ≤ 4294967295 → timing
 unfolding timingBy accepted bandOf
 five-bands clock frequency h = rw (found-first frequency bands h) (by-five clock frequency)
 
--- every row of document 01 is sound
-pub five-sound : (frequency : ℕ) → Sound (bandOf frequency)
+-- every row of document 01 is sound, as rows of a table are
+pub five-sound : (frequency : ℕ) → frequency ≤ 4294967295 → Sound (bandOf frequency)
 unfolding bandOf
-five-sound frequency =
-    either Sound (leb frequency 7999) _ _ (λ _. sound-row _ tt) (λ _.
-    either Sound (leb frequency 79999) _ _ (λ _. sound-row _ tt) (λ _.
-    either Sound (leb frequency 100000) _ _ (λ _. sound-row _ tt) (λ _.
-    either Sound (leb frequency 400000) _ _ (λ _. sound-row _ tt) (λ _. sound-row _ tt))))
+five-sound frequency h = subst SoundIn (found-first frequency bands h) (sound-found frequency fiveBands tt)

@@ -1,17 +1,18 @@
 -- What `BandPromises` promises. Assumes nothing.
-use Prim.Native.Nat.{ℕ, zero, suc, _*_, _/_, _%_, _≤_, _<_}
+use Prim.Native.Nat.{ℕ, zero, suc, _-_, _*_, _/_, _%_, _≤_, _<_}
 use native.Mathlib.Omega.{arith}
 use mathlib.Core.Logic.{_≢_}
 use mathlib.Core.Path.{_≡_, refl, sym, ap, subst, _∙_}
 use mathlib.Core.Bool.{Bool, true, false, cond, _&&_, _||_}
 use mathlib.Core.List.{List, [], _∷_, _++_}
-use lib.Dec.{T, eqb, leb, ltb, leb→le, ltb→lt, lit<}
-use lib.ListN.{length, drop, length-append}
-use lib.Seq.{drop-append-seam}
+use lib.Dec.{T, eqb, leb, ltb, leb→le, ltb→lt, eqb→eq, lit<}
+use lib.ListN.{length, drop, length-append, length-drop}
+use lib.Seq.{drop-append-seam, drop-drop}
 use borrow.Author.Tests.{lt-ltb, le-ltb, lt-leb, le-leb, eq-eqb, ne-eqb, ltb-false, leb-false, eqb-false}
 use Rattle.fields.proofs.Laws.{and-l, and-r}
-use Rattle.words.proofs.Round.{words-before}
-use Rattle.words.specs.Words.{wordsIn, wordAt, bytesOf, Below}
+use Rattle.words.proofs.Round.{words-before, whole-words}
+use Rattle.words.proofs.Turns.{bytes-append}
+use Rattle.words.specs.Words.{wordsFrom, wordsIn, wordAt, bytesOf, Below}
 use Rattle.timing.proofs.Round as round
 use Rattle.timing.specs.Bands.{above, dividerOf}
 use Rattle.timing.specs.Refusals.{timingRefusalNumber}
@@ -32,7 +33,7 @@ use Rattle.bands.proofs.Either.{either}
 use Rattle.bands.proofs.Fits.{Fits, bands-fit}
 use Rattle.bands.proofs.Five.{five-bands}
 use Rattle.bands.proofs.Quotients.{divides, quot-ge}
-use Rattle.bands.proofs.Tables.{sound-row}
+use Rattle.bands.proofs.Tables.{sound-row, bands-are}
 
 -- ---- the rule
 is-so : (t : Bool) → T t → t ≡ true
@@ -238,6 +239,64 @@ read-back bs w =
     let n : length (tableOf bs) / 24 ≡ length bs = omega arith in
     rw (n, eq-eqb (length (tableOf bs) % 24) 0 (omega arith), all-named bs w) (bands-back bs w)
 
+-- the other way: an accepted table's bytes are those of its rows
+shape-number : (w : ℕ) → w ≤ 1 → shapeNumber (shapeOf w) ≡ w
+shape-number zero h = refl
+shape-number (suc zero) h = refl
+shape-number (suc (suc w)) h = absurd (omega arith)
+
+module _ (bytes : List ℕ) (m : ℕ) (long : length bytes / 4 ≡ suc (suc (suc (suc (suc (suc m)))))) where
+  six-words : wordsIn bytes ≡ wordsFrom (suc (suc (suc (suc (suc (suc m)))))) bytes
+  unfolding wordsIn
+  six-words = rw long
+
+  past-six : drop 4 (drop 4 (drop 4 (drop 4 (drop 4 (drop 4 bytes))))) ≡ drop 24 bytes
+  past-six = simp drop-drop
+
+  row-and-rest : wordAt bytes 5 ≤ 1 → rowWords (bandIn bytes) ++ wordsFrom m (drop 24 bytes) ≡ wordsFrom (suc (suc (suc (suc (suc (suc m)))))) bytes
+  row-and-rest h = rw (shape-number (wordAt bytes 5) h, six-words, ← past-six)
+
+written-from : (n : ℕ) (bytes : List ℕ) → length bytes ≡ 24 * n → T (named n bytes) → tableOf (bandsFrom n bytes) ≡ bytesOf (wordsFrom (6 * n) bytes)
+written-from zero bytes e t = refl
+written-from (suc n) bytes e t =
+    let six : 6 * suc n ≡ suc (suc (suc (suc (suc (suc (6 * n)))))) = omega arith in
+    let then = drop 24 bytes in
+    let shape = leb→le (wordAt bytes 5) 1 (and-l (leb (wordAt bytes 5) 1) (named n then) t) in
+    let more = written-from n then (length-drop 24 bytes ∙ (let f : length bytes - 24 ≡ 24 * n = omega arith in f)) (and-r (leb (wordAt bytes 5) 1) (named n then) t) in
+    ap (λ (l : List ℕ). bytesOf (rowWords (bandIn bytes)) ++ l) more
+    ∙ sym (bytes-append (rowWords (bandIn bytes)) (wordsFrom (6 * n) then))
+    ∙ ap bytesOf (row-and-rest bytes (6 * n) (omega arith) shape)
+    ∙ ap (λ (k : ℕ). bytesOf (wordsFrom k bytes)) (sym six)
+
+as-words : (n : ℕ) (bytes : List ℕ) → length bytes ≡ 24 * n → wordsFrom (6 * n) bytes ≡ wordsIn bytes
+unfolding wordsIn
+as-words n bytes e = (let f : length bytes / 4 ≡ 6 * n = omega arith in rw f)
+
+shown : (w : Bool) (bs : List Band) → accepted (cond w bs []) ≡ true → T w
+unfolding accepted
+shown true bs e = tt
+shown false bs e = so e
+
+all-shown : (bytes : List ℕ) → accepted (bandsIn bytes) ≡ true → T (eqb (length bytes % 24) 0 && named (length bytes / 24) bytes)
+unfolding bandsIn
+all-shown bytes = shown (eqb (length bytes % 24) 0 && named (length bytes / 24) bytes) (bandsFrom (length bytes / 24) bytes)
+
+written-back : (bytes : List ℕ) → Below 256 bytes → accepted (bandsIn bytes) ≡ true → tableOf (bandsIn bytes) ≡ bytes
+written-back bytes below good =
+    ap tableOf (bands-are bytes good)
+    ∙ written-from n bytes whole (and-r (eqb (length bytes % 24) 0) (named n bytes) both)
+    ∙ ap bytesOf (as-words n bytes whole)
+    ∙ whole-words (6 * n) bytes (omega (arith, whole)) below
+  where
+    n : ℕ
+    n = length bytes / 24
+
+    both : T (eqb (length bytes % 24) 0 && named (length bytes / 24) bytes)
+    both = all-shown bytes good
+
+    whole : length bytes ≡ 24 * n
+    whole = (let e = eqb→eq (length bytes % 24) 0 (and-l (eqb (length bytes % 24) 0) (named (length bytes / 24) bytes) both) in omega arith)
+
 -- ---- what fits
 fitted : (t : Timed) (u : I2cTiming) → Fits t → t ≡ Timing u → round.Within u
 fitted t u f e = subst Fits e f
@@ -257,4 +316,5 @@ band-promises =
       fits = λ bs clock frequency t e. (let w = fitted _ t (bands-fit bs clock frequency) e in (w .presc, w .scldel, w .sdadel, w .sclh, w .scll));
       packs = λ bs clock frequency t e. round.packs t (fitted _ t (bands-fit bs clock frequency) e);
       read-back = read-back;
+      written-back = written-back;
     }

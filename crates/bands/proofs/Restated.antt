@@ -14,7 +14,7 @@ use borrow.Fn.Kinds
 use borrow.Fn.World
 use contract.Lifetimes.{Lfts}
 use denote.Triple.Clauses
-use Rattle.words.specs.Words.{wordsIn, bytesOf}
+use Rattle.words.specs.Words.{wordsIn, bytesOf, Below}
 use Rattle.timing.specs.Bands.{timingOf, bandOf, inBandOf, equalAt, doubleAt, dividerOf}
 use Rattle.timing.specs.Timingr.{rawOf, packOf}
 use Rattle.timing.specs.declared.Band.{Band}
@@ -26,11 +26,14 @@ use Rattle.timing.specs.declared.TimingRefusal.the-variants.{NoSpeed, ClockOver
 use Rattle.timing.specs.declared.Timed.{Timed}
 use Rattle.timing.specs.declared.Timed.the-variants.{Timing, Refused}
 use Rattle.bands.specs.Bands.{accepted, heldIn, loadedOf, settled, shapedIn, inRow, bandFor, byFound, timingBy, fiveBands}
+use Rattle.bands.specs.Bounds.{Sound, SoundIn}
 use Rattle.bands.specs.Promises.{rowAt, Rule, Words}
 use Rattle.bands.specs.Table.{tableOf, bandsIn}
 use Rattle.bands.specs.declared.Loaded.the-variants.{Accepted, Refused as NotLoaded}
 use Rattle.bands.specs.declared.Found.the-variants.{Row}
 use Rattle.bands.proofs.Promised.{band-promises}
+use Rattle.bands.proofs.Quotients.{divides, most-steps}
+use Rattle.bands.proofs.Tables.{sound-found, all-sound}
 use Rattle.bands.proofs.Shapes.{prescaler-over, high-over, all-fit}
 use Rattle.bands.proofs.calc_timing_params as calc
 use Rattle.bands.proofs.calc_timing_params.Kinds as calc-kinds
@@ -245,7 +248,7 @@ module _ (κs : Lfts 1) (a : borrow.Fn.World.ArgsD timing-by.signature κs) (t :
                 pub double-5 : 16 < q → t ≡ Refused SpeedLow
                 double-5 h = shaped ∙ as-shape Double double ∙ sym (prescaler-over Double kernel (kernel / bus) b q refl h)
 
-                pub double-6-or-timing : q ≤ 16 → high ≤ 127 → t ≡ cond (eqb (kernel / b .scldel / q) 0) (Refused NoSetup) (Timing (record {
+                pub double-6-or-timing : q ≤ 16 → t ≡ cond (eqb (kernel / b .scldel / q) 0) (Refused NoSetup) (Timing (record {
                   presc = q - 1;
                   scldel = min 15 (max 4 (kernel / b .scldel / q - 1));
                   sdadel = min 15 (max 1 (kernel / b .sdadel / q));
@@ -253,7 +256,10 @@ module _ (κs : Lfts 1) (a : borrow.Fn.World.ArgsD timing-by.signature κs) (t :
                   scll = 2 * (high + 1) - 1;
                 }))
                 unfolding settled
-                double-6-or-timing h k = shaped ∙ as-shape Double double ∙ sym (all-fit Double kernel (kernel / bus) b q refl h (omega arith) (omega arith))
+                double-6-or-timing h =
+                    let row : Sound b = subst SoundIn found (sound-found bus rows (all-sound rows (subst T (sym good) tt))) in
+                    let steps = most-steps (divides (kernel / bus) (b .d) ratio (row .d-least) (row .d-most)) in
+                    shaped ∙ as-shape Double double ∙ sym (all-fit Double kernel (kernel / bus) b q refl h (omega (arith, steps)) (omega (arith, steps)))
 
 -- ---- A table's bytes: which number stands where, and what is no table
 
@@ -309,6 +315,11 @@ packed-whole = band-promises .packs
 
 pub one-table : (bs bs′ : List Band) → Words bs → Words bs′ → tableOf bs ≡ tableOf bs′ → bs ≡ bs′
 one-table bs bs′ w w′ e = sym (band-promises .read-back bs w) ∙ ap bandsIn e ∙ band-promises .read-back bs′ w′
+
+-- no byte of an accepted table is left out
+pub all-bytes : (bytes bytes′ : List ℕ) → Below 256 bytes → Below 256 bytes′ → accepted (bandsIn bytes) ≡ true → bandsIn bytes ≡ bandsIn bytes′ → bytes ≡ bytes′
+all-bytes bytes bytes′ w w′ a e =
+    sym (band-promises .written-back bytes w a) ∙ ap tableOf e ∙ band-promises .written-back bytes′ w′ (ap accepted (sym e) ∙ a)
 
 -- any two rows of an accepted table, and each of its rows
 pub rule-of-two : (b c : Band) → Rule (b ∷ c ∷ []) → (b .upper < c .upper) × (8 ≤ c .d) × (c .d ≤ 256) × (b .sdadel ≢ 0) × (c .scldel ≢ 0)

@@ -168,13 +168,13 @@ module _ (bytes : List ℕ) (good : accepted (bandsIn bytes) ≡ true) where
   unfolding bandsIn
   bands-are = shown (eqb (length bytes % 24) 0 && named (length bytes / 24) bytes) (bandsFrom (length bytes / 24) bytes) good
 
-sound-found : (frequency : ℕ) (bs : List Band) → T (allSound bs) → SoundIn (bandFor frequency bs)
+pub sound-found : (frequency : ℕ) (bs : List Band) → T (allSound bs) → SoundIn (bandFor frequency bs)
 sound-found frequency [] t = tt
 sound-found frequency (b ∷ bs) t =
     either SoundIn (leb frequency (b .upper)) (Row b) (bandFor frequency bs)
     (λ _. sound-row b (and-l (sound b) (allSound bs) t)) (λ _. sound-found frequency bs (and-r (sound b) (allSound bs) t))
 
-all-sound : (bs : List Band) → T (accepted bs) → T (allSound bs)
+pub all-sound : (bs : List Band) → T (accepted bs) → T (allSound bs)
 unfolding accepted
 all-sound bs t = and-l (allSound bs) (rising bs) (and-r (leb (length bs) 16) _ (and-r (leb 1 (length bs)) _ t))
 

@@ -56,5 +56,6 @@ pub record BandPromises : Type 0 where
   pub fits : (bs : List Band) (clock frequency : ℕ) (t : I2cTiming) → timingBy bs clock frequency ≡ Timing t →
       (t .presc < 16) × (t .scldel < 16) × (t .sdadel < 16) × (t .sclh < 256) × (t .scll < 256)
   pub packs : (bs : List Band) (clock frequency : ℕ) (t : I2cTiming) → timingBy bs clock frequency ≡ Timing t → packOf t ≡ Raw (rawOf t)
-  -- rows that are written as bytes are read back
+  -- rows that are written as bytes are read back, and the rows that are read of an accepted table are written as its bytes
   pub read-back : (bs : List Band) → Words bs → bandsIn (tableOf bs) ≡ bs
+  pub written-back : (bytes : List ℕ) → Below 256 bytes → accepted (bandsIn bytes) ≡ true → tableOf (bandsIn bytes) ≡ bytes

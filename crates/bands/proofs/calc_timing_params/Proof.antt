@@ -1,4 +1,5 @@
 -- `bands::calc_timing_params` meets its contract: the row is one of five sound ones. Assumes nothing.
+use native.Mathlib.Omega.{arith}
 use mathlib.Core.Path.{subst⁻¹, ap, _∙_}
 use Rattle.timing.specs.declared.Band.{Band}
 use Rattle.bands.specs.Bands.{byFound}
@@ -14,7 +15,7 @@ calc-timing-params-spec =
     tie.close
     (tie.spec
     (λ c κs. search needs)
-    (λ c κs. subst⁻¹ Sound (c .band-of .ensures) (five-sound _))
+    (λ c κs. subst⁻¹ Sound (c .band-of .ensures) (five-sound _ (omega arith)))
     (λ c.
     let a = c .before .before .args in
     c .by-found .ensures ∙ ap (λ (b : Band). byFound (a .clock) (a .frequency) (Row b)) (c .before .band-of .ensures)
