@@ -385,8 +385,15 @@ uint32_t huskerivory_load_bands(const uint8_t *bands, uint64_t length);
  *      5   p is above 16, in a row of shape double, or SCLH or SCLL above 255, in any row
  *      6   clock / scldel / p is 0, in any row: no data setup time can be counted
  *
- * With document 01's five bands, the last of them up to 4,294,967,295, it returns and leaves what huskerivory_timing does, for every
- * clock and frequency. */
+ * With these five rows it returns and leaves what huskerivory_timing does, for every clock and frequency:
+ *
+ *     upper          least_clock     d      sdadel      scldel   shape
+ *             7,999    2,000,000   256   2,000,000     500,000   equal
+ *            79,999    2,000,000   128   2,000,000     500,000   equal
+ *           100,000    2,000,000    64   2,000,000     500,000   equal
+ *           400,000    8,000,000    96   3,000,000   1,000,000   double
+ *     4,294,967,295   17,000,000    96   8,000,000   4,000,000   double
+ */
 uint32_t huskerivory_timing_by_bands(const uint8_t *bands, uint64_t length, uint32_t clock, uint32_t frequency, uint32_t *timingr);
 
 /* ---- Layout */

@@ -305,6 +305,21 @@ fn to_end(random: &mut Random) -> bool {
     random.up_to(1) == 0
 }
 
+/// Bytes cut somewhere for kind 1, with a bit changed for 2 and 3, left for any other.
+fn spoil(bytes: &mut Vec<u8>, kind: u32, random: &mut Random) {
+    match kind {
+        1 => {
+            let length = random.up_to(bytes.len() as u32);
+            bytes.truncate(length as usize);
+        }
+        2 | 3 if !bytes.is_empty() => {
+            let place = random.up_to(bytes.len() as u32 - 1) as usize;
+            bytes[place] ^= 1 << random.up_to(7);
+        }
+        _ => {}
+    }
+}
+
 fn held(what: &str, holds: bool) -> Result<(), String> {
     if holds {
         Ok(())

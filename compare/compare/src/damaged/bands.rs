@@ -1,6 +1,6 @@
 //! Tables of speed bands, of a maker or of nobody, and what they have to give.
 
-use super::held;
+use super::{held, spoil};
 use crate::bands::generate;
 use crate::bands::reading;
 use crate::random::Random;
@@ -52,15 +52,7 @@ impl Bands {
                 table = vec![0; random.up_to(MOST) as usize];
                 table.fill_with(|| random.word() as u8);
             }
-            1 => {
-                let length = random.up_to(table.len() as u32);
-                table.truncate(length as usize);
-            }
-            2 | 3 if !table.is_empty() => {
-                let place = random.up_to(table.len() as u32 - 1) as usize;
-                table[place] ^= 1 << random.up_to(7);
-            }
-            _ => {}
+            kind => spoil(&mut table, kind, random),
         }
         Bands {
             table,

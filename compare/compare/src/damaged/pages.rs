@@ -1,6 +1,6 @@
 //! Logs, of a driver or of nobody, and what a page of them may be.
 
-use super::{held, kept};
+use super::{held, kept, spoil};
 use crate::page::generate;
 use crate::page::print::COLUMNS;
 use crate::page::registers::accessed;
@@ -54,15 +54,7 @@ impl Page {
         let mut log = generate::undamaged(count, random).log();
         match random.up_to(7) {
             0 => log.fill_with(|| random.word() as u8),
-            1 => {
-                let length = random.up_to(log.len() as u32);
-                log.truncate(length as usize);
-            }
-            2 | 3 if !log.is_empty() => {
-                let place = random.up_to(log.len() as u32 - 1) as usize;
-                log[place] ^= 1 << random.up_to(7);
-            }
-            _ => {}
+            kind => spoil(&mut log, kind, random),
         }
         let entries = log.len() / ENTRY;
         let lines = entries * (COLUMNS + 1);
