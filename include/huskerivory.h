@@ -220,7 +220,11 @@ uint32_t huskerivory_next(const huskerivory_description *description,
 
 /* ---- Advance */
 
-/* How an advance came out. 0 to 9 are the call's outcome: it is over, and a further advance says the same again. */
+/* How an advance came out. 0 to 9 are the call's outcome: it is over, and a further advance says the same again.
+ *
+ * The address of 7 and 8 is unshifted: ISR's ADDCODE or, where ADDCODE is 0x78 to 0x7B and the OAR1 that is read then has OA1MODE 1, its
+ * OA1, of ten bits. So a board of seven bits at 0x78 is called at 0x78; and on one whose own address has ten bits, a call of a secondary
+ * address 0x78 to 0x7B is told as one of the own address. */
 enum {
     HUSKERIVORY_REPORT_DONE = 0,           /* done; value: the bytes that a target's transfer counts, else 0 */
     HUSKERIVORY_REPORT_BUS = 1,            /* a bus error */

@@ -567,6 +567,40 @@ static void check_listen(void) {
     }
 }
 
+/* Events of ADDCODE 0x78 and 0x7B: OAR1 is read, and its OA1 is the address if OA1MODE is 1, else ADDCODE is, which the saved call keeps where the
+ * call is cut before that read. All answers in one advance, and one in each. */
+static void check_events(void) {
+    enum { AUTO_ACK = HUSKERIVORY_CALL_WAIT_FOR_EVENT, MANUAL_ACK = AUTO_ACK + HUSKERIVORY_MANUAL_ACK };
+    static const struct {
+        uint32_t call, answers[4], used, written, report, value;
+    } events[] = {
+        {AUTO_ACK, {0xF00009, 0x80F0}, 2, 3, HUSKERIVORY_REPORT_EVENT_WRITE, 0x78},
+        {AUTO_ACK, {0xF00009, 0x8523}, 2, 3, HUSKERIVORY_REPORT_EVENT_WRITE, 0x123},
+        {AUTO_ACK, {0xF70009, 0x03FF}, 2, 3, HUSKERIVORY_REPORT_EVENT_READ, 0x7B},
+        {MANUAL_ACK, {0xF10009, 0, 0, 0x80F0}, 4, 7, HUSKERIVORY_REPORT_EVENT_READ, 0x78},
+        {MANUAL_ACK, {0xF10009, 0, 0, 0x0523}, 4, 7, HUSKERIVORY_REPORT_EVENT_READ, 0x123},
+    };
+    static call c;
+    for (size_t i = 0; i < sizeof events / sizeof events[0]; i++) {
+        for (size_t at_once = 1; at_once <= 4; at_once += 3) {
+            advanced a = {HUSKERIVORY_REPORT_WAITING, {0, 0, 0, 0}};
+            make_worked(&c);
+            c.description.call = events[i].call;
+            CHECK(begin(&c) == 0);
+            while (a.report == HUSKERIVORY_REPORT_WAITING && c.used < events[i].used) {
+                uint8_t answers[16];
+                size_t count = 0;
+                for (; count < at_once && c.used + count < events[i].used; count++) {
+                    huskerivory_put_word(answers + 4 * count, events[i].answers[c.used + count]);
+                }
+                a = advance(&c, answers, 4 * count, PLACES - c.entries);
+            }
+            CHECK(a.report == events[i].report && a.answer.value == events[i].value);
+            CHECK(c.used == events[i].used && c.entries == events[i].written);
+        }
+    }
+}
+
 /* A refused advance, with an answer and places lent: nothing changes. So many bytes of `saved` are lent. */
 static void check_refused(call *c, size_t saved_len, uint32_t number) {
     static call before;
@@ -1032,6 +1066,7 @@ int main(void) {
     run_group("bytes that come in", check_bytes_in);
     run_group("own addresses", check_addresses);
     run_group("events to listen to", check_listen);
+    run_group("events at a ten-bit header", check_events);
     run_group("damaged saved calls", check_damaged);
     run_group("refused descriptions", check_descriptions);
     run_group("lists, and what is wrong with them", check_lists);

@@ -11,12 +11,14 @@ use borrow.Author.Tests.{ne-eqb}
 use Rattle.words.proofs.Turns.{in-words}
 use Rattle.registers.specs.Map.{offsetOf}
 use Rattle.registers.specs.declared.Register.{Register}
+use Rattle.registers.specs.declared.Register.the-variants.{Oar1}
 use Rattle.calls.proofs.Logic.{is-true, is-false}
 use Rattle.calls.specs.Advances.{Advance, made, joined, given, bufferAfter, savedAfter, Last, last, orElse, lastAccepted, Came, over, full, waiting, NoneRefused, Untouched, RefusedUntouched, AllRefused, answersIn, NoRun}
 use Rattle.calls.specs.Advances as advances
 use Rattle.calls.specs.Bytes.{EndedAs, callerBytes, readPlaces, bytesAt, writeCount}
 use Rattle.calls.specs.Calls.{Request, callNumber, transaction, manual, receives, transmits}
 use Rattle.calls.specs.Demand.{left}
+use Rattle.calls.specs.Events.{statusIn, readsOf, addressBy}
 use Rattle.calls.specs.Next.{nextOf}
 use Rattle.calls.specs.Outcomes.{waitingNumber, refusedNumber, fullNumber, outcomeNumber, outcomeValue, reportNumber, reportValue, awaitedOf}
 use Rattle.calls.specs.Refusals.{anyOf}
@@ -25,7 +27,7 @@ use Rattle.calls.specs.Steps.{accessOf, beginOf, sameStep}
 use Rattle.calls.specs.declared.Description.{Description}
 use Rattle.calls.specs.declared.Next.{Next}
 use Rattle.calls.specs.declared.Next.the-variants as next
-use Rattle.calls.specs.declared.Outcome.the-variants.{Done}
+use Rattle.calls.specs.declared.Outcome.the-variants.{Done, EventRead, EventWrite}
 use Rattle.calls.specs.declared.Report.the-variants.{Over, Full, Waiting}
 use Rattle.calls.specs.declared.SavedCall.{SavedCall}
 use Rattle.calls.specs.declared.Step.the-variants.{Ended}
@@ -216,6 +218,13 @@ module _ (B : BeginCall) (Cs : List AdvanceCall) (z : B .gave ≡ 0)
 
   counted : saved .accesses ≡ min (length log) 4294967295
   counted = rw (← same-left, ran .kept .one-run .count) (ran .kept .accesses)
+
+  -- an event says the address that stands in the log
+  event-read : (n : ℕ) → saved .step ≡ Ended → saved .outcome ≡ EventRead n → n ≡ addressBy (statusIn log) (readsOf Oar1 log)
+  event-read n ended event = ran .kept .events .read n (record { ended = rw same-left ended; outcome = rw same-left event }) .address
+
+  event-written : (n : ℕ) → saved .step ≡ Ended → saved .outcome ≡ EventWrite n → n ≡ addressBy (statusIn log) (readsOf Oar1 log)
+  event-written n ended event = ran .kept .events .written n (record { ended = rw same-left ended; outcome = rw same-left event }) .address
 
   module _ (n : ℕ) (ended : saved .step ≡ Ended) (done : saved .outcome ≡ Done n) where
     ended-as : EndedAs (Done n) (left q begun (As Cs) log)

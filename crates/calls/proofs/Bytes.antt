@@ -29,17 +29,13 @@ use Rattle.calls.specs.declared.Step.{Step}
 use Rattle.calls.specs.declared.Step.the-variants.{Ended, Byte, StopClear, NackClear, FlushTxis, FlushByte, Address, ModifyRead, ModifyWrite}
 use Rattle.calls.specs.declared.Effect.{Effect}
 use Rattle.calls.specs.declared.Effect.the-variants.{Goes, Loads, Notes, Next, Enters, Fails, Ends}
-use Rattle.calls.proofs.Logic.{only, only-if, and-in, or-1, or-else, nor-0, by-test, both, same}
+use Rattle.calls.proofs.Logic.{only-use, only-if, and-in, or-1, or-else, nor-0, by-test, both, same}
 use Rattle.calls.proofs.Every.{implied, is-eq, every-step}
-use Rattle.calls.proofs.Fits.{over, flushOk, inEvent, below, plain, Fits, AllRead, all-read, move-some, fits}
+use Rattle.calls.proofs.Fits.{over, flushOk, inEvent, plain, from-event, Fits, AllRead, all-read, move-some, fits}
 use Rattle.calls.proofs.Accepted.{Known, known, notes-well, accepted-after, accepted-begin}
 use Rattle.calls.proofs.Along.{entryOf, storeOf, made, readLog, Keeps, along}
 use Rattle.calls.proofs.Places.{is-true, is-false, aheadFrom, storeAt, ahead-all, ahead-none, ahead-next, ahead-other, ahead-this, bytes-ahead}
 use Rattle.calls.proofs.Views.{stepOf, notedIn, thenIn, after-noted, thereIn, lastIn, readsIn, sizeIn, placeIn}
-
-pub only-use : (c : Bool) (X : Type 0) → T c → only c X → X
-only-use true X h x = x
-only-use false X h x = absurd h
 
 -- ---- What a run moves
 
@@ -277,16 +273,13 @@ module _ (q : Request) (s : SavedCall) (a : ℕ) (t : Step) (fresh : Fresh t s) 
   flushed-by n f = and-l (flushOk (stepOf n) (sameStep t FlushTxis) (sameStep t NackClear)) _ (f .edge)
 
   fresh-by : (n : Effect) → Fits q s t n → T (inEvent (stepOf n)) → (s .piece ≡ 0) × (s .byte ≡ 0)
-  fresh-by n f e =
-      let u : Step = stepOf n in
-      let h : T (not (inEvent u) || inEvent t) = and-l (not (inEvent u) || inEvent t) (below t u) (and-r (flushOk u (sameStep t FlushTxis) (sameStep t NackClear)) _ (f .edge)) in
-      fresh (only-use (inEvent u) (T (inEvent t)) e (only-if (inEvent u) (inEvent t) h))
+  fresh-by n f e = fresh (only-use (inEvent (stepOf n)) (T (inEvent t)) e (from-event t (stepOf n) (f .edge)))
 
   -- it ends as done only past the last byte of its last piece
   ends : (o : Outcome) → Fits q s t (Ends o) → Finished q (applyOf s a (Ends o))
   ends o f _ d x w =
       let y : T (sameStep t StopClear) × (o ≡ s .outcome) =
-      only-use (isDone o && transaction (q .call)) _ (and-in (isDone o) (transaction (q .call)) d x) (f .why) in
+      only-use (isDone o && transaction (q .call)) _ (and-in (isDone o) (transaction (q .call)) d x) (f .why .0) in
       let r : T (lastIn q s && not (thereIn q s)) =
       or-else (failing (q .call) s) _ (stopping (y .0) x) (going (transaction (q .call)) (isDone (s .outcome)) (rw (y .1) at d)) in
       all-out w q s (s .byte) (search and-l) (past q s (search and-r))
@@ -316,7 +309,7 @@ module _ (q : Request) (s : SavedCall) (a : ℕ) (t : Step) (fresh : Fresh t s) 
     finished = λ e _ _. absurd (T-not (sameStep u Ended) (f .why .2) e);
   }
   onward (Loads u) f = plainly _ (f .why) (flushed-by (Loads u) f) (λ w. refl) (fresh-by (Loads u) f)
-  onward (Notes o u) f = plainly _ (f .why) (flushed-by (Notes o u) f) (λ w. refl) (fresh-by (Notes o u) f)
+  onward (Notes o u) f = plainly _ (f .why .0) (flushed-by (Notes o u) f) (λ w. refl) (fresh-by (Notes o u) f)
   onward (Next u) f =
       plainly _ (f .why .2) (flushed-by (Next u) f)
       (λ w. sym (ahead-next w 0 (piecesOf q) (s .piece) (s .byte) (past q s (f .why .0))))

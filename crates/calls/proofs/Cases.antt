@@ -1,6 +1,7 @@
 -- Document 01's "Proved cases" as one computed table: the twelve of the crate `timing`, and the run of call 7 that the
 -- section "Bench" prints. With them runs that pin the step tables, entry by entry; each row says which. They are the Rust's, as
--- `compare bench-text` prints them (of the first of `transfers` with document 01's outcome, docs/DIFFERENCES.md). Assumes nothing.
+-- `compare bench-text` prints them (of the first of `transfers` with document 01's outcome, of a board at 0x78 with document 02's address:
+-- docs/DIFFERENCES.md). Assumes nothing.
 use Prim.Native.Nat.{ℕ, suc, _+_}
 use mathlib.Core.Path.{_≡_, refl}
 use mathlib.Core.List.{List, [], _∷_, _++_, map}
@@ -172,8 +173,16 @@ events =
     []
     -- ManualAck and DIR 1 with TXE 0: ISR 1, SBC off, RELOAD and NBYTES off, the address, ADDRCF
     ∷ ran (plain 24 0) [] [] (EventRead 0x2A5)
-    (r 0x18 0x00F10028 ∷ w 0x18 1 ∷ r 0x00 0xFFFFFFFF ∷ w 0x00 0xFFFEFFFF ∷ r 0x04 0 ∷ w 0x04 0 ∷ r 0x08 0x2A5 ∷ w 0x1C 8 ∷ [])
+    (r 0x18 0x00F10028 ∷ w 0x18 1 ∷ r 0x00 0xFFFFFFFF ∷ w 0x00 0xFFFEFFFF ∷ r 0x04 0 ∷ w 0x04 0 ∷ r 0x08 0x6A5 ∷ w 0x1C 8 ∷ [])
     []
+    -- document 02, R-5: ADDCODE 0x78 is the address of a board of seven bits, since OA1MODE is 0, though OA1EN is 1; with OA1MODE 1 OA1 is
+    ∷ ran (plain 8 0) [] [] (EventWrite 0x78) (r 0x18 0x00F00009 ∷ w 0x1C 8 ∷ r 0x08 0x80F0 ∷ []) []
+    ∷ ran (plain 8 0) [] [] (EventWrite 0x123) (r 0x18 0x00F00009 ∷ w 0x1C 8 ∷ r 0x08 0x8523 ∷ []) []
+    ∷ ran (plain 24 0) [] [] (EventRead 0x78)
+    (r 0x18 0x00F10009 ∷ r 0x00 0 ∷ w 0x00 0 ∷ r 0x04 0 ∷ w 0x04 0 ∷ r 0x08 0x80F0 ∷ w 0x1C 8 ∷ [])
+    []
+    -- OA1 is, though OA1EN is 0
+    ∷ ran (plain 8 0) [] [] (EventRead 0x78) (r 0x18 0x00F70009 ∷ w 0x1C 8 ∷ r 0x08 0x0478 ∷ []) []
     -- an event of neither flag is awaited; a stop
     ∷ ran (plain 8 0) [] [] EventStop (r 0x18 0 ∷ r 0x18 0x10 ∷ r 0x18 0x21 ∷ w 0x1C 0x20 ∷ []) []
     -- events that do not fit 11, 12 and 13

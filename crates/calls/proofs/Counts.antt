@@ -26,12 +26,12 @@ use Rattle.calls.specs.declared.Step.the-variants.{Ended, Begin, StartSt
 use Rattle.calls.specs.declared.Effect.{Effect}
 use Rattle.calls.specs.declared.Effect.the-variants.{Goes, Loads, Notes, Next, Enters, Fails, Ends}
 use Rattle.calls.specs.declared.Call.the-variants.{WaitForEvent, WaitForStop}
-use Rattle.calls.proofs.Logic.{only, not-and, not-and-1, nor-1, or-0, or-1, or-else, by-test, both}
+use Rattle.calls.proofs.Logic.{only, only-use, not-and, not-and-1, nor-1, or-0, or-1, or-else, by-test, both}
 use Rattle.calls.proofs.Every.{all, asks, implied, is-eq}
 use Rattle.calls.proofs.Fits.{inEvent, flushOk, Fits, AllRead, all-read}
 use Rattle.calls.proofs.Along.{entryOf, readLog, Keeps, along}
 use Rattle.calls.proofs.Places.{is-true, is-false, transfer-pieces}
-use Rattle.calls.proofs.Bytes.{only-use, not-transmits, not-receives, no-transaction, past, quiet, not-two, not-end, Front, whole, Fresh, by-noted, noted-fresh, Seen, note, unseen, seen-out, seen-got, Inv, at-byte, Taken, step-taken, keeps, begins}
+use Rattle.calls.proofs.Bytes.{not-transmits, not-receives, no-transaction, past, quiet, not-two, not-end, Front, whole, Fresh, by-noted, noted-fresh, Seen, note, unseen, seen-out, seen-got, Inv, at-byte, Taken, step-taken, keeps, begins}
 use Rattle.calls.proofs.Views.{notedIn, after-noted, thereIn, lastIn, sizeIn}
 
 abbrev target : Request → Bool
@@ -283,7 +283,7 @@ says-after : (q : Request) (s : SavedCall) (a : ℕ) (t : Step) (n : Effect) →
     Fresh t s → Fits q s t n → Counts q s t n → Says q (applyOf s a n)
 says-after q s a t (Goes u) z f c e d = absurd (T-not (sameStep u Ended) (f .why .2) e)
 says-after q s a t (Loads u) z f c e d = absurd (not-end u (f .why) e)
-says-after q s a t (Notes o u) z f c e d = absurd (not-end u (f .why) e)
+says-after q s a t (Notes o u) z f c e d = absurd (not-end u (f .why .0) e)
 says-after q s a t (Next u) z f c e d = absurd (not-end u (f .why .2) e)
 says-after q s a t (Enters u) z f c e d = absurd (not-end u (f .why .1) e)
 says-after q s a t (Fails o) z f c e d = absurd e

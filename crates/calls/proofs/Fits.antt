@@ -20,12 +20,13 @@ use Rattle.calls.specs.declared.Flag.the-variants.{Rxne, Txis, Tc, Tcr, 
 use Rattle.calls.specs.declared.Modify.{Modify}
 use Rattle.calls.specs.declared.Modify.the-variants.{PeOff, PeOn, Listen, NackSet, ReloadOff, SbcOff, ReloadClear, SbcOn, ReloadOn, NbytesSet}
 use Rattle.calls.specs.declared.Outcome.{Outcome}
+use Rattle.calls.specs.declared.Outcome.the-variants.{Done, Bus, Arbitration, Nack, Stopped, ExpectedWrite, ExpectedRead, EventRead, EventWrite, EventStop}
 use Rattle.calls.specs.declared.SavedCall.{SavedCall}
 use Rattle.calls.specs.declared.Step.{Step}
 use Rattle.calls.specs.declared.Step.the-variants.{Ended, Begin, StartStatus, StartControl, Wait, Byte, StopClear, BusClear, ArbitrationClear, NackClear, FlushTxis, FlushByte, FlushTxe, Flush, Timing, Own, Secondary, Enable, Delay1, Delay2, Disabled, Event, EventFlush, EventClear, Address, TransferClear, ModifyRead, ModifyWrite}
 use Rattle.calls.specs.declared.Effect.{Effect}
 use Rattle.calls.specs.declared.Effect.the-variants.{Goes, Loads, Notes, Next, Enters, Fails, Ends}
-use Rattle.calls.proofs.Logic.{only, only-yes, only-not, not-and, not-and-1, and-in, or-0, or-1, or-else, nor-0, nor-1, by-test, both}
+use Rattle.calls.proofs.Logic.{only, only-yes, only-not, only-if, not-and, not-and-1, and-in, or-0, or-1, or-else, nor-0, nor-1, by-test, both}
 use Rattle.calls.proofs.Every.{implied, asks, aside}
 use Rattle.calls.proofs.Views.{stepOf, thereIn, lastIn, readsIn}
 
@@ -64,6 +65,19 @@ early manualEvents = true
 abbrev pub inEvent : Step → Bool
 inEvent t = early (groupOf t)
 
+-- an event by which the target was addressed
+abbrev pub isEvent : Outcome → Bool
+isEvent (Done n) = false
+isEvent Bus = false
+isEvent Arbitration = false
+isEvent Nack = false
+isEvent Stopped = false
+isEvent ExpectedWrite = false
+isEvent ExpectedRead = false
+isEvent (EventRead n) = true
+isEvent (EventWrite n) = true
+isEvent EventStop = false
+
 -- no BYTE, STOP_CLEAR or ENDED, which are entered for a reason
 abbrev pub plain : Step → Bool
 plain u = not (sameStep u Byte) && (not (sameStep u StopClear) && not (sameStep u Ended))
@@ -73,11 +87,12 @@ abbrev pub Why : Request → SavedCall → Step → Effect → Type 0
 Why q s t (Goes u) =
     only (sameStep u Byte) (T (thereIn q s)) × only (sameStep u StopClear && transaction (q .call)) (T (over q s)) × T (not (sameStep u Ended))
 Why q s t (Loads u) = T (plain u)
-Why q s t (Notes o u) = T (plain u)
+Why q s t (Notes o u) = T (plain u) × T (inEvent t)
 Why q s t (Next u) = T (not (thereIn q s)) × T (not (lastIn q s)) × T (plain u) × T (not (inEvent u))
 Why q s t (Enters u) = T (inEvent t) × T (plain u)
-Why q s t (Fails o) = T (not (isDone o))
-Why q s t (Ends o) = only (isDone o && transaction (q .call)) (T (sameStep t StopClear) × (o ≡ s .outcome))
+Why q s t (Fails o) = T (not (isDone o)) × T (not (isEvent o))
+Why q s t (Ends o) =
+    only (isDone o && transaction (q .call)) (T (sameStep t StopClear) × (o ≡ s .outcome)) × only (isEvent o) (o ≡ s .outcome)
 
 -- the writes that can follow one another from a step on, its own among them: none where it reads, and BYTE as where it
 -- writes
@@ -130,6 +145,11 @@ below t u = eqb (rank t) 0 || ltb (rank u) (rank t)
 -- a step after a step: the flush of a NACK stays in order, none leads back into the event, and writes come to an end
 abbrev pub edgeOk : Step → Step → Bool
 edgeOk t u = flushOk u (sameStep t FlushTxis) (sameStep t NackClear) && ((not (inEvent u) || inEvent t) && below t u)
+
+pub from-event : (t u : Step) → T (edgeOk t u) → only (inEvent u) (T (inEvent t))
+from-event t u e =
+    only-if (inEvent u) (inEvent t)
+    (and-l (not (inEvent u) || inEvent t) (below t u) (and-r (flushOk u (sameStep t FlushTxis) (sameStep t NackClear)) _ e))
 
 pub lower : (t u : Step) → T (edgeOk t u) → T (below t u)
 lower t u e = and-r (not (inEvent u) || inEvent t) (below t u) (and-r (flushOk u (sameStep t FlushTxis) (sameStep t NackClear)) _ e)
@@ -220,9 +240,20 @@ module _ {q : Request} {s : SavedCall} {t : Step} where
   way : (n : Effect) → T (takes q (stepOf n)) → T (edgeOk t (stepOf n)) → Why q s t n → Fits q s t n
   way n h e w = record { taken = h; edge = e; why = w }
 
-  -- a way with several reasons, taken apart: `search` comes to a pair last
+  -- ways with several reasons, taken apart: `search` comes to a pair last
   goes : (u : Step) → T (takes q u) → T (edgeOk t u) → T (plain u) → Fits q s t (Goes u)
   goes u h e p = way (Goes u) h e (search (only-not, not-and, and-l, and-r))
+
+  notes : (o : Outcome) (u : Step) → T (takes q u) → T (edgeOk t u) → T (plain u) → T (inEvent t) → Fits q s t (Notes o u)
+  notes o u h e p i = way (Notes o u) h e (p, i)
+
+  fails : (o : Outcome) → T (takesGroup q move) → T (edgeOk t Wait) → T (not (isDone o)) → T (not (isEvent o)) → Fits q s t (Fails o)
+  fails o h e d n = way (Fails o) h e (d, n)
+
+  ends : (o : Outcome) → T (edgeOk t Ended) → only (isDone o && transaction (q .call)) (T (sameStep t StopClear) × (o ≡ s .outcome)) →
+      only (isEvent o) (o ≡ s .outcome) → Fits q s t (Ends o)
+  unfolding groupTaken
+  ends o e d n = way (Ends o) tt e (d, n)
 
   nexts : T (takesGroup q move) → T (not (thereIn q s)) → T (not (lastIn q s)) →
       T (edgeOk t Begin) → T (edgeOk t (ModifyRead NbytesSet)) → T (edgeOk t Wait) → Fits q s t (Next (entryStep (q .call)))
@@ -246,11 +277,11 @@ module _ {q : Request} {s : SavedCall} {t : Step} where
   goes-clear : T (takesGroup q events) → T (edgeOk t (ModifyRead SbcOff)) → T (edgeOk t EventClear) → Fits q s t (Goes (clearStep (q .call)))
   goes-clear = clears Goes goes
 
-  notes-clear : (o : Outcome) → T (takesGroup q events) → T (edgeOk t (ModifyRead SbcOff)) → T (edgeOk t EventClear) →
+  notes-clear : (o : Outcome) → T (inEvent t) → T (takesGroup q events) → T (edgeOk t (ModifyRead SbcOff)) → T (edgeOk t EventClear) →
       Fits q s t (Notes o (clearStep (q .call)))
-  notes-clear o = clears (Notes o) (λ u h e p. way (Notes o u) h e p)
+  notes-clear o i = clears (Notes o) (λ u h e p. way (Notes o u) h e (p, i))
 
-ruleset table = (test, way, goes, nexts, enters, goes-clear, notes-clear, only-yes, only-not, not-and, not-and-1, logic, tt)
+ruleset table = (test, way, goes, notes, fails, ends, nexts, enters, goes-clear, notes-clear, only-yes, only-not, not-and, not-and-1, logic, tt)
 
 -- ---- the table, for a piece of the call's (a call with none counts as having one)
 abbrev pub Inside : Request → SavedCall → Type 0

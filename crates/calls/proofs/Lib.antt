@@ -9,6 +9,7 @@ pub mod Places
 pub mod Bytes
 pub mod Moved
 pub mod Counts
+pub mod Events
 pub mod Fit
 pub mod AlreadyCut
 pub mod Cut

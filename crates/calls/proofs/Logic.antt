@@ -16,6 +16,10 @@ pub only-not : (c : Bool) (X : Type 0) → T (not c) → only c X
 only-not true X h = absurd h
 only-not false X h = tt
 
+pub only-use : (c : Bool) (X : Type 0) → T c → only c X → X
+only-use true X h x = x
+only-use false X h x = absurd h
+
 pub only-if : (c b : Bool) → T (not c || b) → only c (T b)
 only-if true b h = h
 only-if false b h = tt

@@ -10,14 +10,18 @@ use lib.Dec.{T, eqb, ltb}
 use lib.ListN.{length, getD, take, drop, replicate, getD-replicate}
 use lib.Seq.{drop-drop, ext-getD}
 use Rattle.fields.specs.Field.{place, bit, getOf, flagOf}
+use Rattle.registers.specs.Map.{offsetOf}
+use Rattle.registers.specs.declared.Register.{Register}
 use Rattle.calls.specs.Advances.{Advance, Meets, isRefusal, refused, Follows, none, but, then, made, joined, given, bufferAfter, savedAfter, answersIn}
 use Rattle.calls.specs.Bytes.{range, placesFrom, bytesAt, callerBytes, readPlaces}
 use Rattle.calls.specs.Calls.{Request, callNumber, isCall, isKind, transaction, manual, receives, transmits}
 use Rattle.calls.specs.AlreadyCut.{sizes}
+use Rattle.calls.specs.Events.{readsOf, lastOf}
 use Rattle.calls.specs.Pieces.{Piece, pieceOf, cutOf, listPieces, piecesFor, piecesOf}
 use Rattle.calls.specs.Refusals.{listed, total}
 use Rattle.calls.specs.Run.{Entry, wordsOf, Run, runOf, asFinal, isNackClear, putOutFrom, putOut, takenIn}
 use Rattle.calls.specs.declared.Call.{Call}
+use Rattle.calls.specs.declared.Call.the-variants.{WaitForEvent}
 use Rattle.calls.specs.declared.Description.{Description}
 use Rattle.calls.specs.declared.Refusal.{Refusal}
 use Rattle.calls.specs.declared.Report.{Report}
@@ -145,6 +149,10 @@ gave es = picked (λ e. ltb (e .code) 0x100) (λ v. v) es
 abbrev pub received : List Entry → List ℕ
 received es = picked (λ e. eqb (e .code) 0x24) (λ v. v % 256) es
 
+-- what the register at an offset gave
+abbrev pub readAt : ℕ → List Entry → List ℕ
+readAt at es = picked (λ e. eqb (e .code) at) (λ v. v) es
+
 -- What its writes put into TXDR, but for a flush, which comes two entries after ICR 0x10: each entry beside the one two before it.
 abbrev pub sentBeside : List Entry → List Entry → List ℕ
 sentBeside [] es = []
@@ -169,6 +177,10 @@ gave-is (e ∷ es) = rw (gave-is es) (one-more (ltb (e .code) 0x100) (e .value) 
 pub received-is : (es : List Entry) → takenIn es ≡ received es
 received-is [] = refl
 received-is (e ∷ es) = rw (received-is es) (one-more (eqb (e .code) 0x24) (e .value % 256) (received es))
+
+pub reads-are : (r : Register) (es : List Entry) → readsOf r es ≡ readAt (offsetOf r) es
+reads-are r [] = refl
+reads-are r (e ∷ es) = rw (reads-are r es) (one-more (eqb (e .code) (offsetOf r)) (e .value) (readAt (offsetOf r) es))
 
 pub sent-is : (es : List Entry) → putOut es ≡ sent es
 sent-is es = go noEntry noEntry es
@@ -247,6 +259,10 @@ manual-sender = of-each (numbered (26 ∷ 28 ∷ [])) isSender tt
 pub is-auto : (c : Call) → T (numbered (10 ∷ 12 ∷ []) c) → T (not (manual c))
 unfolding manual
 is-auto = of-each (numbered (10 ∷ 12 ∷ [])) (λ c. not (manual c)) tt
+
+pub event-is : (c : Call) → T (isKind c WaitForEvent) → T (numbered (8 ∷ 24 ∷ []) c)
+unfolding isKind isCall
+event-is = of-each (λ c. isKind c WaitForEvent) (numbered (8 ∷ 24 ∷ [])) tt
 
 pub is-manual : (c : Call) → T (numbered (26 ∷ 28 ∷ []) c) → T (manual c)
 unfolding manual
@@ -350,6 +366,11 @@ keep-is q b b′ z e t h =
     go : (r : Bool) → ((i : ℕ) → NotIn i (cond r (range 0 (q .size)) []) → getD b′ i 0 ≡ getD b i 0) → cond r [] b′ ≡ cond r [] b
     go true k = refl
     go false k = ext-getD 0 b′ b e (λ i _. k i tt)
+
+-- the last of some words
+pub last-word : (w : ℕ) (vs : List ℕ) (v : ℕ) → lastOf w (vs ++ v ∷ []) ≡ v
+last-word w [] v = refl
+last-word w (u ∷ vs) v = last-word u vs v
 
 -- bytes and then zeros, byte by byte
 pub padded : (n : ℕ) (xs : List ℕ) (i : ℕ) → i < n → getD (take n xs ++ replicate (n - length xs) 0) i 0 ≡ getD xs i 0

@@ -1,31 +1,35 @@
 -- What demand 3 and document 01's section "A call, from its entry" say of a begin and the advances after it, once more, fact by fact, in the
 -- words of Plain. Each theorem is read off `demand-3`: a statement that loses a fact, and its proof with it, fails here. Assumes nothing.
-use Prim.Native.Nat.{ℕ, zero, suc, _+_, _-_, _*_, _/_, _≤_, _<_, min}
+use Prim.Native.Nat.{ℕ, zero, suc, _+_, _-_, _*_, _/_, _%_, _≤_, _<_, min}
 use native.Mathlib.Omega.{arith}
 use mathlib.Core.Logic.{_≢_}
 use mathlib.Core.Path.{_≡_, refl, sym, ap, ap₂, _∙_, subst}
-use mathlib.Core.Bool.{not}
+use mathlib.Core.Bool.{Bool, true, false, cond, not}
 use mathlib.Core.List.{List, [], _∷_, _++_, map}
-use lib.Dec.{T, T-not}
+use lib.Dec.{T, T-not, eqb, eqb→eq}
+use borrow.Author.Tests.{ne-eqb}
 use lib.ListN.{length, getD, drop}
+use Rattle.fields.specs.Field.{bitsAt, getOf, number}
 use Rattle.calls.specs.Advances.{Advance, refused, made, joined, bufferAfter, savedAfter, nobody, last, lastAccepted, Came, over, full, waiting, LastCame, NoneRefused, RefusedUntouched, AllRefused, NoRun}
 use Rattle.calls.specs.AlreadyCut.{alreadyCut, sizes, AsCut}
 use Rattle.calls.specs.Bytes.{EndedAs, bytesAt, callerBytes, readPlaces, writeCount}
 use Rattle.calls.specs.Calls.{Request, transaction, manual}
 use Rattle.calls.specs.Demand.{left, Kept, Demand3}
+use Rattle.calls.specs.Events.{statusIn, addressBy, EventAt}
 use Rattle.calls.specs.Outcomes.{refusalNumber}
 use Rattle.calls.specs.Pieces.{pieceOf, cutOf, piecesFor, pieceAt}
 use Rattle.calls.specs.Refusals.{lengthOf, total, requestOf, checkOf, accepts}
 use Rattle.calls.specs.Run.{Entry, wordsOf, Uncut, uncutOf, noCall, begunOf, putOut, takenIn}
-use Rattle.calls.specs.Steps.{accessOf, beginOf}
+use Rattle.calls.specs.Steps.{accessOf, beginOf, tenBitHeader}
 use Rattle.calls.specs.Next.{nextOf}
 use Rattle.calls.specs.declared.Next.the-variants as next
 use Rattle.calls.specs.declared.Call.{Call}
 use Rattle.calls.specs.declared.Description.{Description}
 use Rattle.calls.specs.declared.Outcome.{Outcome}
-use Rattle.calls.specs.declared.Outcome.the-variants.{Done}
+use Rattle.calls.specs.declared.Outcome.the-variants.{Done, EventRead, EventWrite}
 use Rattle.calls.specs.declared.Refusal.{Refusal}
 use Rattle.registers.specs.declared.Register.{Register}
+use Rattle.registers.specs.declared.Register.the-variants.{Oar1, Isr}
 use Rattle.calls.specs.declared.Report.the-variants.{Over, Full, Waiting}
 use Rattle.calls.specs.declared.SavedCall.{SavedCall}
 use Rattle.calls.specs.declared.Step.the-variants.{Ended}
@@ -36,7 +40,7 @@ use Rattle.calls.proofs.Demand.{demand-3}
 use Rattle.calls.proofs.Every.{is-eq}
 use Rattle.calls.proofs.Fit.{accepted-fit}
 use Rattle.calls.proofs.Logic.{is-true, is-false}
-use Rattle.calls.proofs.Plain.{Refuses, LeftAlone, Leads, accesses, entries, answers, gave, received, sent, numbered, isTransaction, isSender, isReceiver, toSend, toFill, toKeep, accesses-are, entries-are, answers-are, is-refused, not-refused, refuses, led, gave-is, received-is, sent-is, transaction-is, sender-is, receiver-is, auto-sender, manual-sender, is-auto, is-manual, fill-is, send-is, keep-is, padded}
+use Rattle.calls.proofs.Plain.{Refuses, LeftAlone, Leads, accesses, entries, answers, gave, received, readAt, sent, numbered, isTransaction, isSender, isReceiver, toSend, toFill, toKeep, accesses-are, entries-are, answers-are, is-refused, not-refused, refuses, led, gave-is, received-is, reads-are, sent-is, transaction-is, sender-is, receiver-is, auto-sender, manual-sender, is-auto, is-manual, event-is, last-word, fill-is, send-is, keep-is, padded}
 
 begun-at : (c : Call) (d : Description) (ops : List ℕ) (n : ℕ) → checkOf d ops n ≡ Accepted c →
     begunOf d ops n .saved ≡ beginOf (requestOf c d ops n)
@@ -46,6 +50,24 @@ begun-at c d ops n e = rw e
 not-begun : (r : Refusal) (d : Description) (ops : List ℕ) (n : ℕ) → checkOf d ops n ≡ Rejected r → begunOf d ops n .saved ≡ noCall
 unfolding begunOf
 not-begun r d ops n e = rw e
+
+-- ADDCODE 0x78 to 0x7B, and no other code, is a ten-bit header
+header : (code : ℕ) → 0x78 ≤ code → code ≤ 0x7B → tenBitHeader code ≡ true
+unfolding getOf bitsAt
+header code h g = (let e : code / 4 % 32 ≡ 30 = omega arith in rw e)
+
+no-header : (code : ℕ) → (code / 4 % 32 ≢ 30) → tenBitHeader code ≡ false
+unfolding getOf bitsAt
+no-header code n = ne-eqb (code / 4 % 32) 30 n
+
+one-or-none : (x : ℕ) → x < 2 → x ≡ number (eqb x 1)
+one-or-none zero h = refl
+one-or-none (suc zero) h = refl
+one-or-none (suc (suc x)) h = absurd (omega arith)
+
+no-words : (ws : List ℕ) → length ws ≡ 0 → ws ≡ []
+no-words [] h = refl
+no-words (w ∷ ws) h = absurd (omega arith)
 
 -- of each of them
 abbrev pub Each : (Advance → Type 0) → List Advance → Type 0
@@ -270,6 +292,68 @@ module _ (c : Call) (d : Description) (ops b : List ℕ) (As : List Advance) (s�
   count-at-most t e n o =
       let h = kept .count n (ended-as e n o) .at-most (rw (sender-is c) t) in
       (omega (arith, h, ap length out-is), omega (arith, h))
+
+  -- ---- what an event says, a read or a write at the address n (document 02, R-5), by RM0492's bits
+  module _ (reads : Bool) (n : ℕ) (e : s′ .step ≡ Ended) (o : s′ .outcome ≡ cond reads (EventRead n) (EventWrite n)) where
+    named : EventAt q log reads n
+    named = rw (← log-is []) at (go reads refl)
+      where
+        L : List Entry
+        L = kept .one-run .log
+
+        go : (r : Bool) → reads ≡ r → EventAt q L reads n
+        go true i = rw i (kept .events .read n (record { ended = rw saved-is e; outcome = rw saved-is (rw i at o) }))
+        go false i = rw i (kept .events .written n (record { ended = rw saved-is e; outcome = rw saved-is (rw i at o) }))
+
+    pub event-asked : T (numbered (8 ∷ 24 ∷ []) c)
+    event-asked = event-is c (named .asked)
+
+    -- its status word is the last that ISR gave, and there is one
+    pub event-polled : readAt 0x18 log ≢ []
+    unfolding getOf bitsAt
+    event-polled h = absurd (subst T (sym (rw (reads-are Isr log, h) at (named .matched))) tt)
+
+    module _ (before : List ℕ) (status : ℕ) (polls : readAt 0x18 log ≡ before ++ status ∷ []) where
+      status-is : statusIn log ≡ status
+      status-is = rw (reads-are Isr log, polls) (last-word 0 before status)
+
+      pub event-matched : status / 8 % 2 ≡ 1
+      unfolding getOf bitsAt
+      event-matched = eqb→eq (status / 8 % 2) 1 (subst T (sym (rw status-is at (named .matched))) tt)
+
+      pub event-direction : status / 65536 % 2 ≡ number reads
+      unfolding getOf bitsAt
+      event-direction = one-or-none (status / 65536 % 2) (omega arith) ∙ ap number (rw status-is at (named .direction))
+
+      own-words : length (readAt 0x08 log) ≡ cond (tenBitHeader (status / 131072 % 128)) 1 0
+      unfolding getOf bitsAt
+      own-words = rw (reads-are Oar1 log, status-is) at (named .own)
+
+      by-words : (ws : List ℕ) → readAt 0x08 log ≡ ws → n ≡ addressBy status ws
+      by-words ws h = rw (reads-are Oar1 log, status-is, h) at (named .address)
+
+      -- OAR1 is read, once, for ADDCODE 0x78 to 0x7B, and for no other
+      pub own-read : 0x78 ≤ status / 131072 % 128 → status / 131072 % 128 ≤ 0x7B → length (readAt 0x08 log) ≡ 1
+      own-read h g = own-words ∙ rw (header (status / 131072 % 128) h g)
+
+      pub own-unread-below : status / 131072 % 128 < 0x78 → readAt 0x08 log ≡ []
+      own-unread-below h = no-words (readAt 0x08 log) (own-words ∙ rw (no-header (status / 131072 % 128) (λ k. omega arith)))
+
+      pub own-unread-above : 0x7B < status / 131072 % 128 → readAt 0x08 log ≡ []
+      own-unread-above h = no-words (readAt 0x08 log) (own-words ∙ rw (no-header (status / 131072 % 128) (λ k. omega arith)))
+
+      -- the address is OA1 of what it gave if that has OA1MODE 1, and else ADDCODE
+      pub address-is-own : (w : ℕ) (ws : List ℕ) → readAt 0x08 log ≡ w ∷ ws → w / 1024 % 2 ≡ 1 → n ≡ w % 1024
+      unfolding getOf bitsAt
+      address-is-own w ws h m = by-words (w ∷ ws) h ∙ rw m (omega arith)
+
+      pub address-is-code : (w : ℕ) (ws : List ℕ) → readAt 0x08 log ≡ w ∷ ws → w / 1024 % 2 ≡ 0 → n ≡ status / 131072 % 128
+      unfolding getOf bitsAt
+      address-is-code w ws h m = by-words (w ∷ ws) h ∙ rw m
+
+      pub address-is-code-alone : readAt 0x08 log ≡ [] → n ≡ status / 131072 % 128
+      unfolding getOf bitsAt
+      address-is-code-alone h = by-words [] h
 
   -- ---- the access number, which is held at its end
   pub access-number : s′ .accesses ≡ min (accesses As) 4294967295

@@ -1,5 +1,5 @@
 -- Demand 3 whole, for the advances As after a begin with the description d, the operations ops and the buffer b: they are one
--- uncut run, and so what is true of its bytes and counts is true of theirs. Assumes nothing.
+-- uncut run, and so what is true of its bytes, counts and events is true of theirs. Assumes nothing.
 use Prim.Native.Nat.{ℕ, min}
 use mathlib.Core.Path.{_≡_}
 use mathlib.Core.List.{List}
@@ -7,6 +7,7 @@ use lib.ListN.{length}
 use Rattle.calls.specs.Advances.{Advance, OneRun, NoRun, made, bufferAfter, savedAfter}
 use Rattle.calls.specs.Bytes.{BytesOut, BytesIn, Count, EndedAs}
 use Rattle.calls.specs.Calls.{Request}
+use Rattle.calls.specs.Events.{Events}
 use Rattle.calls.specs.Refusals.{requestOf}
 use Rattle.calls.specs.Run.{Entry, Uncut}
 use Rattle.calls.specs.Steps.{beginOf}
@@ -24,6 +25,7 @@ pub record Kept (q : Request) (b : List ℕ) (As : List Advance) : Type 0 where
   pub bytes-out : BytesOut q b (left q b As (one-run .log))
   pub bytes-in : BytesIn q b (left q b As (one-run .log))
   pub count : (n : ℕ) → EndedAs (Done n) (left q b As (one-run .log)) → Count q b (left q b As (one-run .log)) n
+  pub events : Events q (left q b As (one-run .log))
   pub accesses : savedAfter As (beginOf q) .accesses ≡ min (made As) 4294967295
 
 abbrev pub Demand3 : Verdict → Description → List ℕ → List ℕ → List Advance → Type 0

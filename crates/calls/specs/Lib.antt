@@ -11,4 +11,5 @@ pub mod Advances
 pub mod Whole
 pub mod AlreadyCut
 pub mod Bytes
+pub mod Events
 pub mod Demand

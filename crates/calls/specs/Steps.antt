@@ -7,7 +7,7 @@ use lib.Dec.{eqb, ltb}
 use lib.ListN.{getD}
 use Rattle.fields.specs.Field.{Place, place, getOf, flagOf, markOf}
 use Rattle.registers.specs.Map.{resetOf}
-use Rattle.registers.specs.Places.{CR1-PE, CR1-ANFOFF, CR2-START, OAR1-OA1, ISR-TXE, ISR-TXIS, ISR-RXNE, ISR-ADDR, ISR-NACKF, ISR-STOPF, ISR-TC, ISR-TCR, ISR-BERR, ISR-ARLO, ISR-DIR, ISR-ADDCODE, ICR-ADDRCF, ICR-NACKCF, ICR-STOPCF, ICR-BERRCF, ICR-ARLOCF}
+use Rattle.registers.specs.Places.{CR1-PE, CR1-ANFOFF, CR2-START, OAR1-OA1MODE, OAR1-OA1, ISR-TXE, ISR-TXIS, ISR-RXNE, ISR-ADDR, ISR-NACKF, ISR-STOPF, ISR-TC, ISR-TCR, ISR-BERR, ISR-ARLO, ISR-DIR, ISR-ADDCODE, ICR-ADDRCF, ICR-NACKCF, ICR-STOPCF, ICR-BERRCF, ICR-ARLOCF}
 use Rattle.registers.specs.declared.Register.the-variants.{Cr1, Cr2, Oar1, Oar2, Timingr, Isr, Icr, Txdr}
 use Rattle.calls.specs.Calls.{Request, callNumber, isCall, isKind, transaction, manual, receives, transmits, eventful, isConfigured, hasSecondary}
 use Rattle.calls.specs.Outcomes.{isDone, isEventRead, outcomeValue, readdressed}
@@ -138,7 +138,7 @@ addressFound c nonempty s =
     (cond (isEventRead (s .outcome)) (Goes EventClear) (Goes (ModifyRead SbcOn)))
     (eventOf c nonempty s)
 
--- A ten-bit header, 0x78 under the mask 0x7C, has 30 in bits 2 to 6 of ADDCODE; the address itself then stands in OAR1.
+-- A ten-bit header, 0x78 under the mask 0x7C, has 30 in bits 2 to 6 of ADDCODE; whether it is one, OAR1 says.
 abbrev pub tenBitHeader : ℕ → Bool
 tenBitHeader code = eqb (getOf code (place 2 5)) 30
 
@@ -331,12 +331,16 @@ steps =
 abbrev pub sameStep : Step → Step → Bool
 sameStep t u = eqb (stepNumber t) (stepNumber u)
 
--- What a step notes first: BYTE counts its byte, held at the piece's length + 1; ADDRESS keeps OA1.
+-- What a step notes first: BYTE counts its byte, held at the piece's length + 1; ADDRESS keeps the address.
 abbrev pub counted : View → SavedCall → SavedCall
 counted v s = savedAt s (s .step) (s .piece) (min (s .byte + 1) (v .size + 1)) (s .word) (s .outcome) (s .accesses)
 
+-- Once OAR1 is read, its OA1 is the address only if its OA1MODE is 1; otherwise ADDCODE, the value of the event on its way, is (document 02, R-5).
+abbrev pub ownOr : ℕ → ℕ → ℕ
+ownOr code a = cond (flagOf a OAR1-OA1MODE) (getOf a OAR1-OA1) code
+
 abbrev pub found : SavedCall → ℕ → SavedCall
-found s a = savedAt s (s .step) (s .piece) (s .byte) (s .word) (readdressed (s .outcome) (getOf a OAR1-OA1)) (s .accesses)
+found s a = savedAt s (s .step) (s .piece) (s .byte) (s .word) (readdressed (s .outcome) (ownOr (outcomeValue (s .outcome)) a)) (s .accesses)
 
 abbrev pub noted : View → SavedCall → ℕ → Step → SavedCall
 noted v s a t = cond (sameStep t Byte) (counted v s) (cond (sameStep t Address) (found s a) s)

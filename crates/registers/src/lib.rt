@@ -191,6 +191,12 @@ impl Oar1 {
         Oar1(fields::mark(self.0, 15, on))
     }
 
+    pub fn oa1mode(self) -> bool
+        ensures { λ r. ⌜ r ≡ flagOf (self .0) OAR1-OA1MODE ⌝ }
+    {
+        fields::flag(self.0, 10)
+    }
+
     pub fn with_oa1mode(self, on: bool) -> Oar1
         ensures { λ r. ⌜ r .0 ≡ markOf (self .0) OAR1-OA1MODE on ⌝ }
     {

@@ -9,9 +9,9 @@ use mathlib.Core.List.{List, [], _∷_}
 use lib.Dec.{T, eqb, eqb→eq, ltb, ltb→lt, lit<}
 use lib.ListN.{length, getD, set}
 use Rattle.fields.proofs.Laws.{and-l, get-lt, put-lt}
-use Rattle.fields.specs.Field.{getOf}
+use Rattle.fields.specs.Field.{getOf, flagOf}
 use Rattle.registers.specs.Map.{offsetOf}
-use Rattle.registers.specs.Places.{ISR-ADDCODE, OAR1-OA1}
+use Rattle.registers.specs.Places.{ISR-ADDCODE, OAR1-OA1MODE, OAR1-OA1}
 use Rattle.registers.specs.declared.Register.{Register}
 use Rattle.registers.specs.declared.Register.the-variants.{Cr1, Cr2, Oar1, Oar2, Timingr, Isr, Icr, Rxdr, Txdr}
 use Rattle.calls.proofs.AlreadyCut.{list-few, list-short}
@@ -26,7 +26,7 @@ use Rattle.calls.specs.Outcomes.{outcomeValue, readdressed, isEventRead}
 use Rattle.calls.specs.Pieces.{Piece, pieceAt, blocksOf, piecesFor, piecesOf, viewOf}
 use Rattle.calls.specs.Refusals.{requestOf, checkOf, accepts}
 use Rattle.calls.specs.Run.{byteOf, turnOf, advanceFrom}
-use Rattle.calls.specs.Steps.{accessAt, accessOf, afterOf, applyOf, awaited, beginOf, countOf, sameStep, noted, effectAt, waitAt}
+use Rattle.calls.specs.Steps.{accessAt, accessOf, afterOf, applyOf, awaited, beginOf, countOf, sameStep, ownOr, noted, effectAt, waitAt}
 use Rattle.calls.specs.Words.{addressed, cr2Of, timingrOf, ownWord, secondaryWord, oar1Of, oar2Of, alterOf}
 use Rattle.calls.specs.declared.Access.{Access}
 use Rattle.calls.specs.declared.Access.the-variants.{Read, Take, Write, Nothing}
@@ -266,15 +266,15 @@ call-below q s h =
     let e : s .call ≡ callNumber (q .call) = eqb→eq _ _ (and-l (eqb (s .call) (callNumber (q .call))) _ h) in
     rw e (listed-below (q .call))
 
--- the numbers that row 13 does not bound: what a step notes first, BYTE its byte and ADDRESS OA1, keeps them words
+-- the numbers that row 13 does not bound: what a step notes first, BYTE its byte and ADDRESS the address, keeps them words
 record Others (s : SavedCall) : Type 0 where
   word-below : s .word < word
   accesses-below : s .accesses < word
   value-below : outcomeValue (s .outcome) < word
 
-found-below : (o : Outcome) (a : ℕ) → outcomeValue (readdressed o (getOf a OAR1-OA1)) < word
-found-below o a =
-    let h : getOf a OAR1-OA1 < word = omega (arith, get-lt a OAR1-OA1) in
+found-below : (o : Outcome) (a : ℕ) → outcomeValue o < word → outcomeValue (readdressed o (ownOr (outcomeValue o) a)) < word
+found-below o a old =
+    let h = one-of (flagOf a OAR1-OA1MODE) (getOf a OAR1-OA1) (outcomeValue o) (omega (arith, get-lt a OAR1-OA1)) old in
     by-test (λ (x : Outcome). outcomeValue x < word) (isEventRead o) (λ _. h) (λ _. h)
 
 notes : (v : View) (s : SavedCall) (a : ℕ) (t : Step) → OfWords s → Others (noted v s a t)

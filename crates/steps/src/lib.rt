@@ -9,7 +9,7 @@ ghost use Rattle.registers.specs.Places.{ISR-STOPF, ISR-ADDR};
 ghost use Rattle.calls.specs.Calls.{isCall, transaction, transmits};
 ghost use Rattle.calls.specs.Outcomes.{isDone, readdressed};
 ghost use Rattle.calls.specs.Pieces.{byteThere};
-ghost use Rattle.calls.specs.Steps.{errorOr, nackOr, failing, failOf, countOf, transferOver, notAcknowledged, entryStep, transferOf, eventOf, stopEvent, addressFound, tenBitHeader, findAddress, clearStep, addressEvent, eventIn, awaited, stopOr, goesIf, nextIf, waitAt, byteMoved, ownThen, writtenAt, effectAt, oneMore, applyOf, sameStep, counted, found, noted, afterIn, startAt, beginAt};
+ghost use Rattle.calls.specs.Steps.{errorOr, nackOr, failing, failOf, countOf, transferOver, notAcknowledged, entryStep, transferOf, eventOf, stopEvent, addressFound, tenBitHeader, findAddress, clearStep, addressEvent, eventIn, awaited, stopOr, goesIf, nextIf, waitAt, byteMoved, ownThen, writtenAt, effectAt, oneMore, applyOf, sameStep, counted, ownOr, found, noted, afterIn, startAt, beginAt};
 ghost use Rattle.calls.specs.declared.Step.the-variants.{Ended, StartControl, Wait, Byte, Address};
 ghost use Rattle.calls.specs.declared.Effect.the-variants.{Goes};
 ghost use Rattle.calls.specs.declared.Call.the-variants.{New, TargetNew, EnableTargetEvent, DisableTargetEvent, Reset};
@@ -194,7 +194,7 @@ fn is_ten_bit_header(code: u32) -> bool
     fields::get(code, 2, 5) == 30
 }
 
-// An address of ten bits stands in OAR1.
+// What may be an address of ten bits is looked up in OAR1.
 fn find_address(c: Call, nonempty: bool, s: SavedCall) -> Effect
     ensures { λ r. ⌜ r ≡ findAddress c nonempty s ⌝ }
 {
@@ -616,18 +616,28 @@ fn readdress(o: Outcome, n: u32) -> Outcome
     Outcome::EventWrite(n)
 }
 
+// OA1 is the address only if it has ten bits; a board of seven bits may be addressed by ADDCODE 0x78 to 0x7B too.
+fn own_or(code: u32, a: u32) -> u32
+    ensures { λ r. ⌜ r ≡ ownOr code a ⌝ }
+{
+    if Oar1(a).oa1mode() {
+        return Oar1(a).oa1();
+    }
+    code
+}
+
 fn found_at(s: SavedCall, a: u32) -> SavedCall
     ensures { λ r. ⌜ r ≡ found s a ⌝ }
 {
     let o = s.outcome;
-    let event = readdress(o, Oar1(a).oa1());
+    let event = readdress(o, own_or(outcome::value(o), a));
     SavedCall {
         outcome: event,
         ..s
     }
 }
 
-// BYTE counts its byte and ADDRESS keeps OA1 before what follows is looked up.
+// BYTE counts its byte and ADDRESS keeps the address before what follows is looked up.
 fn note(v: View, s: SavedCall, a: u32) -> SavedCall
     requires { ⌜ v .size ≤ 65535 ⌝ }
     ensures { λ r. ⌜ r ≡ noted v s a (s .step) ⌝ }

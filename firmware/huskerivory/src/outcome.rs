@@ -1,6 +1,10 @@
 //! What comes of a call that did not fail.
 
 /// What a target is told by the bus.
+///
+/// The address is unshifted. A ten-bit one is told where the own address has ten bits and the
+/// controller called a ten-bit header; a call of a secondary address 0x78 to 0x7B looks the same
+/// there, and is told as one of the own address.
 #[derive(Clone, Copy, Debug, PartialEq, Eq)]
 pub enum TargetEvent {
     /// The controller reads: the target is to write.

@@ -39,6 +39,42 @@ fn events() {
     );
 }
 
+/// Document 02, R-5: ADDCODE 0x78 is a board's own address of seven bits, unless OAR1 has OA1MODE 1. OAR1
+/// is read for both.
+#[test]
+fn events_of_a_board_at_0x78() {
+    let mut i2c = target(&[0x00F0_0009, 0x80F0, 0x00F0_0009, 0x8523]);
+    let written = |address| Ok(TargetEvent::Write { address });
+    assert_eq!(i2c.wait_for_event(), written(0x78));
+    assert_eq!(i2c.wait_for_event(), written(0x123));
+    assert_eq!(
+        i2c.registers().take(),
+        [
+            "r 18 00F00009",
+            "w 1C 00000008",
+            "r 08 000080F0",
+            "r 18 00F00009",
+            "w 1C 00000008",
+            "r 08 00008523"
+        ]
+    );
+    let mut i2c = target(&[0x00F1_0009, 0, 0, 0x80F0]).with_manual_ack_control();
+    let read = TargetEvent::Read { address: 0x78 };
+    assert_eq!(i2c.wait_for_event(), Ok(read));
+    assert_eq!(
+        i2c.registers().take(),
+        [
+            "r 18 00F10009",
+            "r 00 00000000",
+            "w 00 00000000",
+            "r 04 00000000",
+            "w 04 00000000",
+            "r 08 000080F0",
+            "w 1C 00000008"
+        ]
+    );
+}
+
 #[test]
 fn manual_events() {
     let mut i2c = target(&[

@@ -9,4 +9,5 @@ found-at-spec =
     (tie.spec
     (λ c κs. search needs)
     (λ c κs. search needs)
-    (λ c. rw (c .readdress .ensures, c .before .oa1 .ensures)))
+    (λ c κs. search needs)
+    (λ c. rw (c .readdress .ensures, c .before .own-or .ensures, c .before .before .value .ensures)))
