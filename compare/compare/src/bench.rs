@@ -53,7 +53,7 @@ pub fn compare(files: u64, seed: u64, program: Program) -> io::Result<bool> {
     let all = files < 5_000 || counts.all_reached();
     if !all {
         println!(
-            "bench: a call, an outcome, a refusal, a later piece or the known difference was not \
+            "bench: a call, an outcome, a refusal, a later piece or a known difference was not \
              reached"
         );
     }

@@ -6,6 +6,7 @@ pub mod case;
 pub mod chip;
 pub mod expected;
 pub mod generate;
+pub mod known;
 pub mod outside;
 pub mod pieces;
 pub mod run;

@@ -1,12 +1,14 @@
 //! `compare runs`: the Rust driver and the Rattle driver, through its C boundary, on the same inputs
 //! in one process, uncut and cut.
 //!
-//! After a fixed sample of calls come four parts: long calls ([`long`]), every sequence of answers up
-//! to a length ([`walk`]), every state of small and large calls ([`graph`]), and random calls.
+//! After a fixed sample of calls and the events with a ten-bit header ([`headers`]) come four parts:
+//! long calls ([`long`]), every sequence of answers up to a length ([`walk`]), every state of small
+//! and large calls ([`graph`]), and random calls.
 
 mod check;
 mod cut;
 mod graph;
+mod headers;
 mod kinds;
 mod long;
 mod polls;
@@ -75,7 +77,7 @@ impl Comparison {
             .map_err(|told| Stop::difference(input, told))?;
         let call = input.asked.call;
         self.tally
-            .add(call, ended.report as usize, ended.value, ended.panics);
+            .add(call, ended.report as usize, ended.value, ended.known);
         let (log, _) = self.checker.last();
         self.kinds.count(input, &ended, log);
         self.progress.count()?;
@@ -171,6 +173,7 @@ impl Comparison {
         match limit {
             Limit::Runs(most) => {
                 self.sample()?;
+                headers::all(self)?;
                 self.long()?;
                 self.sequences(SEQUENCES)?;
                 self.states()?;
@@ -179,6 +182,7 @@ impl Comparison {
             Limit::Seconds(seconds) => {
                 let time = Duration::from_secs(seconds);
                 self.sample()?;
+                headers::all(self)?;
                 self.until(time / 4, Self::long)?;
                 self.until(time / 2, |it| it.sequences(u64::MAX))?;
                 self.until(time * 3 / 4, Self::states)?;
@@ -237,7 +241,10 @@ pub fn compare(limit: Limit, seed: u64) -> io::Result<bool> {
     let short = progress.runs < 1_000_000;
     let all = short || differences > 0 || reached;
     if !all {
-        println!("runs: a call, an outcome, a refusal or a kind of run was not reached");
+        println!(
+            "runs: a call, an outcome, a refusal, a known difference or a kind of run was not \
+             reached"
+        );
         kinds.print_missing();
     }
     println!(

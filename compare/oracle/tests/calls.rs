@@ -1,7 +1,7 @@
 //! One or more runs of every call, written out from document 01 and RM0492.
 //!
 //! A log tells the answers too: they are the values of its reads. At the end stands what the driver
-//! does where document 01 refuses or counts otherwise: the rows of docs/DIFFERENCES.md.
+//! does where documents 01 and 02 have something else: the rows of docs/DIFFERENCES.md.
 
 use std::borrow::Cow;
 
@@ -30,6 +30,7 @@ const BERR: u32 = 0x100;
 const ARLO: u32 = 0x200;
 const DIR: u32 = 0x1_0000;
 const ADDCODE_50: u32 = 0x50 << 17;
+const ADDCODE_78: u32 = 0x78 << 17; // a 10-bit header, or a board at 0x78
 const ADDCODE_7A: u32 = 0x7A << 17; // a 10-bit header
 
 const fn r(offset: u32, value: u32) -> Access {
@@ -793,6 +794,37 @@ fn a_nack_before_any_byte_of_a_block_panics() {
     log.push(w(ICR, ADDR));
     log.extend(block);
     check_panic(manual(28), 256, &log, PanicKind::NackAtOnce);
+}
+
+/// Document 02 gives ADDCODE, 120 here, wherever OA1MODE is 0.
+#[test]
+fn oa1_is_the_address_of_a_header_whatever_oa1mode_is() {
+    let gives = |own, address| {
+        let status = r(ISR, ADDCODE_78 | ADDR | TXE);
+        let log = [status, w(ICR, ADDR), r(OAR1, own)];
+        check_plain(8, &log, (EventWrite, address));
+
+        let mut log = vec![r(ISR, ADDCODE_78 | DIR | ADDR | TXE)];
+        log.extend(MANUAL);
+        log.extend([r(OAR1, own), w(ICR, ADDR)]);
+        check_plain(24, &log, (EventRead, address));
+    };
+    gives(0, 0); // the smallest input
+    gives(0x80F0, 240); // the board's own address
+    gives(0x8084, 0x84); // another, so the match is one of the secondary address
+    gives(0x83FF, 0x3FF);
+    // With OA1MODE 1, whatever OA1EN is, this is document 02's address too.
+    gives(0x8523, 291);
+    gives(0x0523, 291);
+    gives(0xFFFF_FFFF, 0x3FF);
+}
+
+#[test]
+fn next_to_a_header_oar1_is_not_read() {
+    for code in [0x77, 0x7C] {
+        let log = [r(ISR, code << 17 | ADDR | TXE), w(ICR, ADDR)];
+        check_plain(8, &log, (EventWrite, code));
+    }
 }
 
 /// Given a list that is not cut.

@@ -156,6 +156,17 @@ impl Answers {
             ISR => self.status(),
             CR1 => self.pending(noise, PE),
             CR2 => self.pending(noise, START),
+            OAR1 => self.own_address(noise),
+            _ => noise,
+        }
+    }
+
+    /// An own address as it is written, in seven bits like that of a header or in ten, or anything.
+    fn own_address(&mut self, noise: u32) -> u32 {
+        let enabled = self.random.pick(&[0, OA1EN]);
+        match self.random.up_to(2) {
+            0 => enabled | header(&mut self.random) << 1,
+            1 => enabled | OA1MODE | noise & OA1,
             _ => noise,
         }
     }
@@ -217,7 +228,7 @@ impl Answers {
 
     fn event(&mut self, flags: u32) -> u32 {
         let code = match self.random.up_to(3) {
-            0 => 0x78 | self.random.up_to(3),
+            0 => header(&mut self.random),
             _ => self.random.up_to(127),
         };
         let below = self.random.pick(&[0, TXE, TXE, TXE | TXIS, RXNE]);
@@ -243,6 +254,11 @@ impl Answers {
         }
         word
     }
+}
+
+/// The ADDCODE of a ten-bit header, or one next to it.
+fn header(random: &mut Random) -> u32 {
+    0x77 + random.up_to(5)
 }
 
 /// A count of bytes at the start, at an edge of a block or at the end of a buffer.

@@ -15,6 +15,9 @@ pub const MATCH: u32 = addcode(0x50) | ADDR | TXE;
 /// A ten-bit header.
 pub const HEADER: u32 = addcode(0x7A) | ADDR | TXE;
 
+/// A match at 0x78, which may be a ten-bit header and the address of a board of seven bits.
+pub const BOARD: u32 = addcode(0x78) | ADDR | TXE;
+
 /// The answers of a manual event after its status word.
 pub const MANUAL: [u32; 2] = [0x1_0001, 0x01FF_8000];
 pub const MANUAL_WRITE: [u32; 4] = [0x1_0001, 0x01FF_8000, 1, 0x8000];

@@ -1,5 +1,7 @@
 //! Registers and flags by RM0492, as far as answers are chosen and logs are read by them.
 
+use oracle::Access;
+
 pub const CR1: u32 = 0x00;
 pub const CR2: u32 = 0x04;
 pub const OAR1: u32 = 0x08;
@@ -17,6 +19,11 @@ pub const START: u32 = 0x2000;
 pub const RELOAD: u32 = 0x0100_0000;
 pub const AUTOEND: u32 = 0x0200_0000;
 
+/// OAR1: the own address, that it has ten bits, and that it is answered to.
+pub const OA1: u32 = 0x3FF;
+pub const OA1MODE: u32 = 0x400;
+pub const OA1EN: u32 = 0x8000;
+
 pub const TXE: u32 = 0x01;
 pub const TXIS: u32 = 0x02;
 pub const RXNE: u32 = 0x04;
@@ -32,4 +39,15 @@ pub const DIR: u32 = 0x1_0000;
 /// ISR's ADDCODE.
 pub const fn addcode(address: u32) -> u32 {
     (address & 0x7F) << 17
+}
+
+/// The ADDCODE that an ISR word has.
+pub const fn addcode_of(status: u32) -> u32 {
+    status >> 17 & 0x7F
+}
+
+/// The word that a register was read as last.
+pub fn last_read(log: &[Access], register: u32) -> Option<u32> {
+    let entry = log.iter().rev().find(|entry| entry[0] == register);
+    entry.map(|entry| entry[1])
 }

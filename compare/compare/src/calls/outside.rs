@@ -12,8 +12,8 @@ use oracle::{cut, Access, Asked, Description, Outcome, PanicKind};
 use super::build::{call, transaction};
 use super::case::Case;
 use super::chip::*;
+use super::known::whole_blocks;
 use super::pieces::{self, has_long, is_control, is_long};
-use super::run::whole_blocks;
 
 /// The most bytes that are lent, and the most operations.
 const BYTES: usize = 65_535;

@@ -1,20 +1,20 @@
-//! What a call comes to: the driver's run, or document 01's refusal; and its text, as document 01's
-//! bench has it.
+//! What a call comes to: the driver's run, but for what is known to differ, or document 01's refusal;
+//! and its text, as document 01's bench has it.
 
 use std::fmt::Write;
 
-use oracle::{Access, Outcome, PanicKind};
+use oracle::Access;
 
 use super::case::Case;
-use super::chip::{TXDR, WRITTEN};
+use super::known::{End, Known};
 
 pub struct Run {
     pub call: u32,
     /// Document 01's word of the outcome.
     pub word: &'static str,
     pub value: u32,
-    /// The driver panics where document 01 gives a count.
-    pub panics: bool,
+    /// What the driver does otherwise.
+    pub known: Option<Known>,
     /// Answers taken.
     pub used: usize,
     pub log: Vec<Access>,
@@ -28,7 +28,7 @@ impl Run {
                 call: case.asked.call,
                 word: "refused",
                 value: refusal,
-                panics: false,
+                known: None,
                 used: 0,
                 log: Vec::new(),
                 buffer: case.buffer.clone(),
@@ -42,18 +42,13 @@ impl Run {
         let description = case.asked.description(buffer.len());
         let description = description.expect("the driver can express what is accepted");
         let run = oracle::run(&description, &mut buffer, &case.answers);
-        let (word, value, panics) = match &run.outcome {
-            Outcome::Panicked(panic) if panic.kind == PanicKind::NackAtOnce => {
-                ("done", whole_blocks(&run.log), true)
-            }
-            Outcome::Panicked(panic) => panic!("{}: {}", case.text(""), panic.message),
-            outcome => (outcome.word(), run.value, false),
-        };
+        let end = End::of(&run.outcome, run.value, &run.log);
+        let end = end.unwrap_or_else(|told| panic!("{}: {told}", case.text("")));
         Run {
             call: case.asked.call,
-            word,
-            value,
-            panics,
+            word: end.word,
+            value: end.value,
+            known: end.known,
             used: run.used,
             log: run.log,
             buffer,
@@ -92,16 +87,6 @@ impl Run {
     }
 }
 
-/// The bytes of the blocks that were put out whole before a NACK at byte 0 of the next: document 01
-/// counts 0 for that one. The flush may have put out one byte more.
-pub fn whole_blocks(log: &[Access]) -> u32 {
-    let put = log
-        .iter()
-        .filter(|access| access[0] == WRITTEN + TXDR)
-        .count() as u32;
-    put / 255 * 255
-}
-
 #[cfg(test)]
 mod tests {
     use super::*;
@@ -130,7 +115,7 @@ mod tests {
         };
         for flush in [1, 3] {
             let run = Run::of(&case(flush));
-            assert!(run.panics);
+            assert_eq!(run.known, Some(Known::Nack));
             assert_eq!((run.word, run.value), ("done", 255));
         }
     }

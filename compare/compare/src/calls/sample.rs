@@ -251,6 +251,15 @@ pub fn events() -> Vec<Described> {
             "the controller writes to a target of ten bits; a byte is flushed",
             call(8).answers(&[HEADER & !TXE, 0x86A5]),
         ),
+        (
+            "the controller writes to a board at 0x78: OA1MODE is 0, so document 02 gives ADDCODE, \
+             where the Rust gives OA1",
+            call(8).answers(&[BOARD, 0x80F0]),
+        ),
+        (
+            "the same match with OA1MODE 1: the target has ten bits, and OA1 is its address",
+            call(8).answers(&[BOARD, 0x8523]),
+        ),
         ("a stop", call(8).answers(&[TXE, STOPF])),
         (
             "a bus error beside a match",
@@ -279,6 +288,10 @@ pub fn events() -> Vec<Described> {
                 .answers(&[HEADER])
                 .answers(&MANUAL)
                 .answers(&[0x6A5, 1, 0x8000]),
+        ),
+        (
+            "manual: the controller reads from a board at 0x78",
+            call(24).answers(&[BOARD | DIR, 0, 0, 0x80F0]),
         ),
         ("manual: a stop", call(24).answers(&[STOPF])),
         (

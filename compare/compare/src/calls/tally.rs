@@ -3,6 +3,7 @@
 use std::collections::BTreeMap;
 
 use super::generate::LISTED;
+use super::known::Known;
 use super::run::Run;
 
 /// Document 01's outcome words, in the order of an advance's reports.
@@ -23,6 +24,12 @@ pub const WORDS: [&str; 12] = [
 
 const REFUSED: usize = 11;
 
+/// The place of a word.
+pub fn place(word: &str) -> usize {
+    let place = WORDS.iter().position(|&it| it == word);
+    place.expect("a run has one of the words")
+}
+
 /// How often each call came out in each way.
 #[derive(Default)]
 pub struct Tally {
@@ -30,24 +37,24 @@ pub struct Tally {
     /// By the call's number, then by the place of the word.
     ends: BTreeMap<u32, [u64; WORDS.len()]>,
     refusals: BTreeMap<u32, u64>,
-    panics: u64,
+    known: BTreeMap<Known, u64>,
 }
 
 impl Tally {
     pub fn count(&mut self, run: &Run) {
-        let place = WORDS.iter().position(|&word| word == run.word);
-        let place = place.expect("a run has one of the words");
-        self.add(run.call, place, run.value, run.panics);
+        self.add(run.call, place(run.word), run.value, run.known);
     }
 
     /// Counts a run by the place of its word.
-    pub fn add(&mut self, call: u32, word: usize, value: u32, panics: bool) {
+    pub fn add(&mut self, call: u32, word: usize, value: u32, known: Option<Known>) {
         self.runs += 1;
         self.ends.entry(call).or_default()[word] += 1;
         if word == REFUSED {
             *self.refusals.entry(value).or_default() += 1;
         }
-        self.panics += u64::from(panics);
+        if let Some(known) = known {
+            *self.known.entry(known).or_default() += 1;
+        }
     }
 
     fn ended(&self, call: u32) -> [u64; WORDS.len()] {
@@ -72,14 +79,14 @@ impl Tally {
         for (refusal, count) in &self.refusals {
             println!("refusal {refusal}: {count}");
         }
-        println!(
-            "NACK at byte 0 of a block that is not the last, where the Rust panics: {}",
-            self.panics
-        );
+        for known in Known::ALL {
+            let count = self.known.get(&known).copied().unwrap_or_default();
+            println!("{}: {count}", known.words());
+        }
     }
 
-    /// Whether every listed call was accepted, and every outcome, every refusal of a begin and the
-    /// one known difference came up.
+    /// Whether every listed call was accepted, and every outcome, every refusal of a begin and every
+    /// known difference came up.
     pub fn all_reached(&self) -> bool {
         let accepted = |call| self.ended(call)[..REFUSED].iter().any(|&count| count > 0);
         let calls = LISTED.into_iter().all(accepted);
@@ -88,6 +95,31 @@ impl Tally {
         let refusals = [8, 10, 11, 12]
             .iter()
             .all(|refusal| self.refusals.contains_key(refusal));
-        calls && words && refusals && self.panics > 0
+        let known = Known::ALL.iter().all(|it| self.known.contains_key(it));
+        calls && words && refusals && known
+    }
+}
+
+#[cfg(test)]
+mod tests {
+    use super::*;
+
+    #[test]
+    fn each_known_difference_has_to_come_up() {
+        let reached = |known: &[Known]| {
+            let mut tally = Tally::default();
+            for call in LISTED {
+                (0..REFUSED).for_each(|word| tally.add(call, word, 0, None));
+            }
+            for refusal in [8, 10, 11, 12] {
+                tally.add(7, REFUSED, refusal, None);
+            }
+            for &known in known {
+                tally.add(24, 8, 0x78, Some(known));
+            }
+            tally.all_reached()
+        };
+        assert!(reached(&Known::ALL));
+        assert!(Known::ALL.iter().all(|&one| !reached(&[one])));
     }
 }

@@ -4,11 +4,11 @@ use std::fmt::Debug;
 
 use oracle::{Access, Asked};
 
-use super::cut;
+use super::cut::{self, Side};
 use super::room::{Log, Room, BLANK};
-use super::shown::Shown;
 use super::truth::{Truth, Uncut};
 use crate::calls::case::Case;
+use crate::calls::known::Known;
 use crate::calls::outside::{self, Row};
 use crate::calls::pieces::has_long;
 use crate::random::Random;
@@ -56,11 +56,12 @@ pub struct Ended {
     pub value: u32,
     /// The register that a waiting run waits for.
     pub awaited: u32,
-    pub panics: bool,
+    /// What the Rust does otherwise.
+    pub known: Option<Known>,
     /// What the Rust does with a refused call, and with a list that is not cut.
     pub rows: Vec<Row>,
     /// Where it was cut, of the places that tell something.
-    pub cuts: Vec<Shown>,
+    pub cuts: Vec<Side>,
     pub saved: [u8; SAVED],
 }
 
@@ -82,7 +83,7 @@ pub struct Checker {
 impl Checker {
     /// Runs an input uncut and, where there are numbers to cut it by, cut. What differs is told.
     pub fn check(&mut self, input: Input, cuts: Option<&mut Random>) -> Result<Ended, String> {
-        let uncut = self.truth.run(input.asked, input.buffer, input.answers);
+        let uncut = self.truth.run(input.asked, input.buffer, input.answers)?;
         let mut ended = whole(&mut self.lent, input, &uncut)?;
         if let Some(random) = cuts {
             ended.cuts = cut::check(&mut self.lent, input, &uncut, ended.awaited, random)?;
@@ -133,7 +134,7 @@ fn whole(lent: &mut Lent, input: Input, uncut: &Uncut) -> Result<Ended, String> 
         report: uncut.report,
         value: uncut.value,
         awaited,
-        panics: uncut.panics,
+        known: uncut.known,
         rows: Vec::new(),
         cuts: Vec::new(),
         saved: lent.saved,
@@ -230,5 +231,48 @@ impl Uncut<'_> {
             None => (rattle::READ, awaited),
         };
         Next { kind, value }
+    }
+}
+
+#[cfg(test)]
+mod tests {
+    use super::*;
+    use crate::calls::build::{call, BOARD};
+    use crate::calls::chip::{addcode, ADDR, DIR, TXE};
+
+    type Change = fn(&mut Uncut);
+
+    /// Whether the Rattle's run of a call differs from what is expected, that being changed.
+    fn differs(case: &Case, change: Change) -> bool {
+        let mut truth = Truth::default();
+        let input = Input::from(case);
+        let mut uncut = truth.run(input.asked, input.buffer, input.answers).unwrap();
+        change(&mut uncut);
+        whole(&mut Lent::default(), input, &uncut).is_err()
+    }
+
+    /// With OA1MODE 0 the address is document 02's alone; all else is the Rust's.
+    #[test]
+    fn nothing_but_the_address_is_left_aside() {
+        let others: [Change; 6] = [
+            |uncut| uncut.value += 1,
+            |uncut| uncut.report = 15 - uncut.report,
+            |uncut| uncut.used -= 1,
+            |uncut| uncut.log = &uncut.log[1..],
+            |uncut| uncut.log = &[[0x18, 0x00F0_0009], [0x11C, 8], [0x0C, 0x80F0]],
+            |uncut| uncut.buffer = &[0x5B],
+        ];
+        let board = call(8).bytes(&[0x5A]).answers(&[BOARD, 0x80F0]);
+        let manual = call(24).answers(&[BOARD | DIR, 0, 0, 0x80F0]);
+        let ten_bit = call(8).answers(&[BOARD, 0x8523]);
+        let beside = |code| call(8).answers(&[addcode(code) | ADDR | TXE]);
+        for case in [&board, &manual, &ten_bit, &beside(0x77), &beside(0x7C)] {
+            assert!(!differs(case, |_| {}));
+            for other in others {
+                assert!(differs(case, other), "{}", case.text(""));
+            }
+        }
+        assert!(differs(&board, |uncut| uncut.value = 0xF0));
+        assert!(differs(&ten_bit, |uncut| uncut.value = 0x78));
     }
 }

@@ -1,15 +1,14 @@
-//! A run cut at random, or where a later piece of an operation begins: answers and log places in
-//! portions of any size, with refused advances and questions for the next access in between.
-//! Document 01 says of each advance what it has to give.
+//! A run cut at random, or where a later piece of an operation begins and where an event reads OAR1:
+//! answers and log places in portions of any size, with refused advances and questions for the next
+//! access in between. Document 01 says of each advance what it has to give.
 
 use oracle::Access;
 
 use super::check::{self, same, Input, Lent};
-use super::shown::Shown;
 use super::truth::Uncut;
 use super::wrong;
 use crate::calls::build::READ;
-use crate::calls::chip::RXDR;
+use crate::calls::chip::{OAR1, RXDR};
 use crate::calls::pieces;
 use crate::random::Random;
 use crate::rattle::{self, Advanced, ENTRY, FULL, WAITING};
@@ -21,13 +20,31 @@ const WRONG: u32 = 6;
 /// Bytes that are no word, after the last answer.
 const STRAY: [u8; 3] = [0x3F; 3];
 
+/// Where an advance ended beside an entry that tells something.
+#[derive(Clone, Copy, Debug, PartialEq, Eq, PartialOrd, Ord)]
+pub enum Side {
+    Before,
+    After,
+}
+
+impl Side {
+    pub const ALL: [Side; 2] = [Side::Before, Side::After];
+
+    pub fn words(self) -> &'static str {
+        match self {
+            Side::Before => "before",
+            Side::After => "after",
+        }
+    }
+}
+
 pub fn check(
     lent: &mut Lent,
     input: Input,
     uncut: &Uncut,
     awaited: u32,
     random: &mut Random,
-) -> Result<Vec<Shown>, String> {
+) -> Result<Vec<Side>, String> {
     check::begin(lent, input, uncut, random.up_to(7) as usize)?;
     let answers = [rattle::bytes(input.answers), &STRAY].concat();
     lent.answers.hold(&answers, random.up_to(7) as usize);
@@ -38,8 +55,8 @@ pub fn check(
         model: Model::new(input),
         made: 0,
         used: 0,
-        borders: pieces::later_controls(input.asked, uncut.log),
-        shown: Vec::new(),
+        borders: borders(input, uncut.log),
+        sides: Vec::new(),
     };
     let at_borders = random.up_to(1) == 0;
     let most_answers = portion(uncut.used, random);
@@ -71,7 +88,14 @@ pub fn check(
     check::next(lent, input, uncut, cut.made, awaited)?;
     check::buffer(&lent.buffer, uncut.buffer)?;
     check::buffer(&lent.buffer, &cut.model.buffer)?;
-    Ok(cut.shown)
+    Ok(cut.sides)
+}
+
+/// The entries that begin a later piece of an operation, and those that read OAR1. No call has both.
+fn borders(input: Input, log: &[Access]) -> Vec<usize> {
+    let own = (0..log.len()).filter(|&place| log[place][0] == OAR1);
+    own.chain(pieces::later_controls(input.asked, log))
+        .collect()
 }
 
 /// The greatest portion of a cut, for a run that takes so many in all.
@@ -90,14 +114,13 @@ struct Cut<'a> {
     model: Model<'a>,
     made: usize,
     used: usize,
-    /// The entries that begin a later piece of an operation, and whether an advance ended beside
-    /// one.
+    /// The entries that tell something, and where advances ended beside one.
     borders: Vec<usize>,
-    shown: Vec<Shown>,
+    sides: Vec<Side>,
 }
 
 impl Cut<'_> {
-    /// The next place just before or just after an entry that begins a later piece.
+    /// The next place just before or just after an entry that tells something.
     fn next_border(&self) -> Option<usize> {
         let after = self.borders.partition_point(|&border| border < self.made);
         let border = *self.borders.get(after)?;
@@ -144,10 +167,10 @@ impl Cut<'_> {
         self.made = made;
         self.used += given.used;
         if self.borders.binary_search(&made).is_ok() {
-            self.shown.push(Shown::CutBefore);
+            self.sides.push(Side::Before);
         }
         if made > 0 && self.borders.binary_search(&(made - 1)).is_ok() {
-            self.shown.push(Shown::CutAfter);
+            self.sides.push(Side::After);
         }
         check::state(lent, self.input, self.uncut, self.made)?;
         Ok(given)
@@ -242,13 +265,16 @@ impl<'a> Model<'a> {
 #[cfg(test)]
 mod tests {
     use super::*;
-    use crate::calls::build::transaction;
+    use crate::calls::build::{call, transaction, BOARD};
+    use crate::calls::chip::DIR;
+    use crate::runs::check::Checker;
+    use std::collections::BTreeSet;
 
     fn uncut(log: &[Access], report: u32) -> Uncut<'_> {
         Uncut {
             report,
             value: 5,
-            panics: false,
+            known: None,
             used: 2,
             log,
             buffer: &[],
@@ -290,5 +316,19 @@ mod tests {
             model.make([0x18, 0xFF]);
         }
         assert_eq!(model.buffer, [9, 1, 9, 9, 2, 3]);
+    }
+
+    #[test]
+    fn an_event_is_cut_beside_its_read_of_oar1() {
+        let manual = call(24).answers(&[BOARD | DIR, 0, 0, 0x80F0]);
+        for case in [call(8).answers(&[BOARD, 0x80F0]), manual] {
+            let sides = |seed| {
+                let mut random = Random::new(seed);
+                let ended = Checker::default().check((&case).into(), Some(&mut random));
+                ended.unwrap().cuts
+            };
+            let sides: BTreeSet<Side> = (0..50).flat_map(sides).collect();
+            assert!(sides.into_iter().eq(Side::ALL));
+        }
     }
 }

@@ -1,6 +1,6 @@
 //! Kinds of run that have to occur, beside every call and outcome: long buffers that come to their
-//! end, long operations, long polls, saved calls at every piece, and what the Rust does with
-//! refused calls and with lists that are not cut.
+//! end, long operations, long polls, events by ten-bit headers, saved calls at every piece, and what
+//! the Rust does with refused calls and with lists that are not cut.
 
 use std::collections::{BTreeMap, BTreeSet};
 use std::fmt;
@@ -8,6 +8,7 @@ use std::fmt;
 use oracle::Access;
 
 use super::check::{Ended, Input};
+use super::headers::{self, Header};
 use super::polls::{self, Wait, WAITS};
 use super::shown::{self, Shown};
 use crate::calls::build::READ;
@@ -30,6 +31,7 @@ enum Kind {
     Zeros(u32),
     Polled(u32, Wait),
     Shown(Shown),
+    Header(Header),
     Saved(Saved),
     Row(Row),
 }
@@ -69,9 +71,10 @@ impl Kind {
         let zeros = TRANSMISSIONS.map(Kind::Zeros);
         let polled = WAITS.map(|(call, wait)| Kind::Polled(call, wait));
         let shown: Vec<Kind> = Shown::all().into_iter().map(Kind::Shown).collect();
+        let headers: Vec<Kind> = Header::all().into_iter().map(Kind::Header).collect();
         let saved = Saved::ALL.map(Kind::Saved);
         let rows = Row::ALL.map(Kind::Row);
-        [&full[..], &zeros, &polled, &shown, &saved, &rows].concat()
+        [&full[..], &zeros, &polled, &shown, &headers, &saved, &rows].concat()
     }
 }
 
@@ -84,6 +87,7 @@ impl fmt::Display for Kind {
                 write!(f, "call {call}: long polls for {}", wait.words())
             }
             Kind::Shown(shown) => write!(f, "call 7: {}", shown.words()),
+            Kind::Header(header) => write!(f, "{header}"),
             Kind::Saved(saved) => write!(f, "call 7: saved calls {}", saved.words()),
             Kind::Row(row) => write!(f, "rows of docs/DIFFERENCES.md, the Rust: {}", row.words()),
         }
@@ -108,9 +112,11 @@ impl Kinds {
         for wait in polls::long(input.asked, length, log) {
             self.add(Kind::Polled(call, wait));
         }
-        let shown = shown::of(input.asked, ended.report, log);
-        for shown in shown.into_iter().chain(ended.cuts.iter().copied()) {
+        for shown in shown::of(input.asked, ended.report, log, &ended.cuts) {
             self.add(Kind::Shown(shown));
+        }
+        for header in headers::of(call, ended.report, log, &ended.cuts) {
+            self.add(Kind::Header(header));
         }
         if call == 7 && ended.report == 0 {
             for word in &input.asked.operations {
@@ -176,7 +182,7 @@ impl Kinds {
 #[cfg(test)]
 mod tests {
     use super::*;
-    use crate::calls::build::{call, counted};
+    use crate::calls::build::{call, counted, BOARD};
     use crate::calls::case::Case;
     use crate::runs::check::Checker;
 
@@ -208,5 +214,17 @@ mod tests {
         assert_eq!(kinds(&polls), [Kind::Polled(8, Wait::Event)]);
         let row = Row::MaskAlone;
         assert_eq!(kinds(&row.example()), [Kind::Row(row)]);
+    }
+
+    #[test]
+    fn events_with_a_header() {
+        let event = Header::Event {
+            call: 8,
+            report: 8,
+            code: 0x78,
+            oa1mode: true,
+        };
+        let case = call(8).answers(&[BOARD, 0x8523]);
+        assert_eq!(kinds(&case), [Kind::Header(event)]);
     }
 }

@@ -82,7 +82,7 @@ fn given(case: &Case) -> Run {
             report => WORDS.get(report as usize).copied().unwrap_or("no outcome"),
         },
         value: given.value,
-        panics: false,
+        known: None,
         used: given.used,
         log: entries
             .map(|entry| [word(&entry[..4]), word(&entry[4..])])

@@ -2,6 +2,7 @@
 
 use oracle::{Access, Asked};
 
+use super::cut::Side;
 use crate::calls::chip::*;
 use crate::calls::pieces::{self, is_control, Piece};
 use crate::calls::tally::WORDS;
@@ -30,8 +31,7 @@ pub enum Shown {
     OverOperations,
     MostPieces,
     /// An advance ended just before or just after the CR2 word of a later piece of an operation.
-    CutBefore,
-    CutAfter,
+    Cut(Side),
 }
 
 /// The reports that can end a run in a later piece: `stopped` is of a read alone.
@@ -52,13 +52,9 @@ impl Shown {
         let ended = REPORTS.map(|(reads, report)| Shown::Ended { reads, report });
         let polled = [TC, STOPF].map(Shown::Polled);
         let mixed = [false, true].map(|ten_bit| Shown::Mixed { ten_bit });
-        let others = [
-            Shown::OverOperations,
-            Shown::MostPieces,
-            Shown::CutBefore,
-            Shown::CutAfter,
-        ];
-        [&ended[..], &polled, &mixed, &others].concat()
+        let many = [Shown::OverOperations, Shown::MostPieces];
+        let cut = Side::ALL.map(Shown::Cut);
+        [&ended[..], &polled, &mixed, &many, &cut].concat()
     }
 
     pub fn words(self) -> String {
@@ -78,8 +74,10 @@ impl Shown {
             }
             Shown::OverOperations => format!("done in more than {OPERATIONS} pieces"),
             Shown::MostPieces => format!("done in {MOST} pieces"),
-            Shown::CutBefore => "an advance ends before a later piece's CR2 word".to_string(),
-            Shown::CutAfter => "an advance ends after a later piece's CR2 word".to_string(),
+            Shown::Cut(side) => {
+                let side = side.words();
+                format!("an advance ends {side} a later piece's CR2 word")
+            }
         }
     }
 }
@@ -91,14 +89,15 @@ pub fn lengths() -> impl Iterator<Item = u32> {
     around.filter(|&length| length <= 65_535)
 }
 
-/// What a run shows that came to this report.
-pub fn of(asked: &Asked, report: u32, log: &[Access]) -> Vec<Shown> {
+/// What a run shows that came to this report and was cut so.
+pub fn of(asked: &Asked, report: u32, log: &[Access], cuts: &[Side]) -> Vec<Shown> {
     if !pieces::has_long(asked) {
         return Vec::new();
     }
     let pieces = pieces::of(&asked.operations);
     let begun = log.iter().filter(|entry| is_control(entry)).count();
     let mut shown = polled(&pieces, log);
+    shown.extend(cuts.iter().copied().map(Shown::Cut));
     let Some(last) = begun.checked_sub(1).and_then(|last| pieces.get(last)) else {
         return shown;
     };
@@ -152,11 +151,11 @@ mod tests {
     use crate::calls::build::{transaction, READ};
     use crate::calls::case::Case;
     use crate::calls::run::Run;
+    use crate::calls::tally::place;
 
     fn shown(case: &Case) -> Vec<Shown> {
         let run = Run::of(case);
-        let report = WORDS.iter().position(|&word| word == run.word).unwrap();
-        of(&case.asked, report as u32, &run.log)
+        of(&case.asked, place(run.word) as u32, &run.log, &[])
     }
 
     const ENDED: Shown = Shown::Ended {

@@ -1,12 +1,11 @@
-//! What an uncut run comes to: the Rust's run, or document 01's refusal.
+//! What an uncut run comes to: the Rust's run, but for what is known to differ, or document 01's
+//! refusal.
 
-use oracle::{run_over, Access, Asked, Outcome, PanicKind, RegisterBlock};
+use oracle::{run_over, Access, Asked, RegisterBlock};
 
-use crate::calls::run::whole_blocks;
+use crate::calls::known::{End, Known};
+use crate::calls::tally;
 use crate::rattle::{REFUSED, WAITING};
-
-/// The report of a run that Rattle cannot have: the Rust panics as no document says.
-pub const PANICKED: u32 = u32::MAX;
 
 /// Memory of the Rust's runs, one after the other.
 #[derive(Default)]
@@ -21,8 +20,8 @@ pub struct Uncut<'a> {
     /// As an advance reports it; `full` it cannot be.
     pub report: u32,
     pub value: u32,
-    /// The Rust panics where document 01 gives a count.
-    pub panics: bool,
+    /// What the Rust does otherwise.
+    pub known: Option<Known>,
     /// Answers taken.
     pub used: usize,
     pub log: &'a [Access],
@@ -30,24 +29,33 @@ pub struct Uncut<'a> {
 }
 
 impl Truth {
-    pub fn run(&mut self, asked: &Asked, buffer: &[u8], answers: &[u32]) -> Uncut<'_> {
+    /// What no document tells of the Rust's run is an error.
+    pub fn run(
+        &mut self,
+        asked: &Asked,
+        buffer: &[u8],
+        answers: &[u32],
+    ) -> Result<Uncut<'_>, String> {
         self.buffer.clear();
         self.buffer.extend_from_slice(buffer);
         let refusal = asked.refusal(buffer.len());
         self.registers
             .load(if refusal.is_none() { answers } else { &[] });
-        let (report, value, panics) = match refusal {
-            Some(refusal) => (REFUSED, refusal, false),
-            None => self.accepted(asked),
+        let (report, value, known) = match refusal {
+            Some(refusal) => (REFUSED, refusal, None),
+            None => {
+                let end = self.accepted(asked)?;
+                (tally::place(end.word) as u32, end.value, end.known)
+            }
         };
-        Uncut {
+        Ok(Uncut {
             report,
             value,
-            panics,
+            known,
             used: self.registers.used(),
             log: self.registers.log(),
             buffer: &self.buffer,
-        }
+        })
     }
 
     /// The log and the buffer of the last run.
@@ -55,17 +63,11 @@ impl Truth {
         (self.registers.log(), &self.buffer)
     }
 
-    /// The report, its value, and whether the Rust panics there.
-    fn accepted(&mut self, asked: &Asked) -> (u32, u32, bool) {
+    fn accepted(&mut self, asked: &Asked) -> Result<End, String> {
         let description = asked.description(self.buffer.len());
         let description = description.expect("the driver can express what is accepted");
         let (outcome, value) = run_over(&self.registers, &description, &mut self.buffer);
-        match outcome {
-            Outcome::Panicked(panic) if panic.kind == PanicKind::NackAtOnce => {
-                (0, whole_blocks(self.registers.log()), true)
-            }
-            outcome => (report(&outcome), value, false),
-        }
+        End::of(&outcome, value, self.registers.log())
     }
 }
 
@@ -76,22 +78,5 @@ impl Uncut<'_> {
 
     pub fn is_refused(&self) -> bool {
         self.report == REFUSED
-    }
-}
-
-fn report(outcome: &Outcome) -> u32 {
-    match outcome {
-        Outcome::Done => 0,
-        Outcome::Bus => 1,
-        Outcome::Arbitration => 2,
-        Outcome::Nack => 3,
-        Outcome::Stopped => 4,
-        Outcome::ExpectedWrite => 5,
-        Outcome::ExpectedRead => 6,
-        Outcome::EventRead => 7,
-        Outcome::EventWrite => 8,
-        Outcome::EventStop => 9,
-        Outcome::Waiting => WAITING,
-        Outcome::Panicked(_) => PANICKED,
     }
 }

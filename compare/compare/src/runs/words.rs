@@ -10,7 +10,7 @@ use crate::rattle::{self, saved};
 
 /// Status words: each flag alone, and flags together where the order in which they are looked at
 /// matters.
-const STATUS: [u32; 22] = [
+const STATUS: [u32; 23] = [
     0,
     TXE,
     TXIS,
@@ -25,6 +25,7 @@ const STATUS: [u32; 22] = [
     TXIS | TXE,
     ADDR | DIR | TXE | addcode(0x50),
     ADDR | TXE | addcode(0x7A),
+    ADDR | DIR | addcode(0x78),
     ADDR | STOPF,
     RXNE | STOPF,
     RXNE | NACKF,
@@ -33,6 +34,17 @@ const STATUS: [u32; 22] = [
     TC | TCR | STOPF,
     BERR | ARLO,
     ARLO | NACKF | TXIS,
+];
+
+/// Words of OAR1: OA1MODE and OA1EN are both clear, one of them set, the other, and both; OA1 is none,
+/// a seven-bit address as it is written there, here of 0x78, another, or all ones.
+pub const OWN: [u32; 6] = [
+    0,
+    OA1EN | 0x78 << 1,
+    !OA1MODE,
+    OA1MODE | 0x123,
+    OA1EN | OA1MODE | 0x123,
+    u32::MAX,
 ];
 
 /// The words that are tried where the register at this offset is read. A received byte tells its
@@ -45,6 +57,7 @@ pub fn of(offset: u32, state: &[u8]) -> Vec<u32> {
             let byte = 0x5A + 7 * place(saved::BYTE) + 91 * place(saved::PIECE);
             vec![0xABCD_EF00 | byte & 0xFF]
         }
+        OAR1 => OWN.to_vec(),
         // Whatever flag is looked at is clear, or set.
         _ => vec![0, u32::MAX],
     }
