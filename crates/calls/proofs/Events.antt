@@ -299,22 +299,9 @@ standing-begins q = record { accepted = accepted-begin q; stands = at-begin }
 
 -- ---- What it says of the uncut run
 
-ended-so : (c : Call) (z : Words) (o : Outcome) {t : Step} → Stands c z o t → T (sameStep t Ended) → T (isEvent o) → T (isKind c WaitForEvent) × Found z o
-ended-so c z o (awaits e n) y x = absurd y
-ended-so c z o (flushes m) y x = absurd y
-ended-so c z o (clears n m) y x = absurd y
-ended-so c z o (sbc-off m) y x = absurd y
-ended-so c z o (sbc-is-off m) y x = absurd y
-ended-so c z o (reload-off m) y x = absurd y
-ended-so c z o (reload-is-off m) y x = absurd y
-ended-so c z o (looks h m) y x = absurd y
-ended-so c z o (cleared h g) y x = absurd y
-ended-so c z o (sbc-on g) y x = absurd y
-ended-so c z o (sbc-is-on g) y x = absurd y
-ended-so c z o (reload-on g) y x = absurd y
-ended-so c z o (reload-is-on g) y x = absurd y
-ended-so c z o (ended k g) y x = (k, g)
-ended-so c z o (other n h) y x = absurd (T-not (isEvent o) h x)
+ended-so : (c : Call) (z : Words) (o : Outcome) → Stands c z o Ended → T (isEvent o) → T (isKind c WaitForEvent) × Found z o
+ended-so c z o (ended k g) x = (k, g)
+ended-so c z o (other n h) x = absurd (T-not (isEvent o) h x)
 
 pub events-named : (q : Request) (k : ℕ) (b l : List ℕ) → Events q (uncutOf q k (beginOf q) b l)
 events-named q k b l = record { read = at-end true; written = at-end false }
@@ -330,7 +317,7 @@ events-named q k b l = record { read = at-end true; written = at-end false }
 
     at-end : (reads : Bool) (n : ℕ) → EndedAs (eventBy reads n) U → EventAt q (U .log) reads n
     at-end reads n e =
-        let f = ended-so (q .call) z (U .saved .outcome) stands (rw (e .ended) tt) (rw (e .outcome) (is-event reads n)) in
+        let f = ended-so (q .call) z (U .saved .outcome) (rw (e .ended) at stands) (rw (e .outcome) (is-event reads n)) in
         let o : eventBy reads n ≡ told z = sym (e .outcome) ∙ f .1 .event in
         let s : z .status ≡ statusIn (U .log) = status-noted unread (U .log) in
         let w : z .own ≡ readsOf Oar1 (U .log) = own-noted unread (U .log) in
