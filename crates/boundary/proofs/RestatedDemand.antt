@@ -220,11 +220,9 @@ module _ (B : BeginCall) (Cs : List AdvanceCall) (z : B .gave ≡ 0)
   counted = rw (← same-left, ran .kept .one-run .count) (ran .kept .accesses)
 
   -- an event says the address that stands in the log
-  event-read : (n : ℕ) → saved .step ≡ Ended → saved .outcome ≡ EventRead n → n ≡ addressBy (statusIn log) (readsOf Oar1 log)
-  event-read n ended event = ran .kept .events .read n (record { ended = rw same-left ended; outcome = rw same-left event }) .address
-
-  event-written : (n : ℕ) → saved .step ≡ Ended → saved .outcome ≡ EventWrite n → n ≡ addressBy (statusIn log) (readsOf Oar1 log)
-  event-written n ended event = ran .kept .events .written n (record { ended = rw same-left ended; outcome = rw same-left event }) .address
+  event-address : (reads : Bool) (n : ℕ) → saved .step ≡ Ended → saved .outcome ≡ cond reads (EventRead n) (EventWrite n) →
+      n ≡ addressBy (statusIn log) (readsOf Oar1 log)
+  event-address reads n ended event = ran .kept .events reads n (record { ended = rw same-left ended; outcome = rw same-left event }) .address
 
   module _ (n : ℕ) (ended : saved .step ≡ Ended) (done : saved .outcome ≡ Done n) where
     ended-as : EndedAs (Done n) (left q begun (As Cs) log)

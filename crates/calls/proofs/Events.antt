@@ -11,13 +11,13 @@ use Rattle.registers.specs.Map.{offsetOf}
 use Rattle.registers.specs.Places.{ISR-TXE, ISR-ADDR, ISR-STOPF, ISR-BERR, ISR-ARLO, ISR-DIR, ISR-ADDCODE}
 use Rattle.registers.specs.declared.Register.the-variants.{Oar1, Isr}
 use Rattle.calls.specs.Bytes.{EndedAs}
-use Rattle.calls.specs.Calls.{Request, isKind, transaction, manual, receives, transmits}
-use Rattle.calls.specs.Events.{readsOf, lastOf, statusIn, addressBy, EventAt, Events}
+use Rattle.calls.specs.Calls.{Request, isKind, manual}
+use Rattle.calls.specs.Events.{readsOf, lastOf, statusIn, addressBy, eventBy, EventAt, Events}
 use Rattle.calls.specs.Outcomes.{isEventRead, outcomeValue, readdressed}
 use Rattle.calls.specs.Pieces.{viewOf}
 use Rattle.calls.specs.Refusals.{accepts, hasPieces}
 use Rattle.calls.specs.Run.{Entry, Uncut, uncutOf}
-use Rattle.calls.specs.Steps.{accessAt, accessOf, effectAt, applyOf, noted, ownOr, entryStep, clearStep, transferOf, eventOf, addressFound, findAddress, addressEvent, eventIn, tenBitHeader, beginAt, beginOf, sameStep}
+use Rattle.calls.specs.Steps.{accessAt, accessOf, effectAt, applyOf, noted, ownOr, clearStep, eventOf, addressFound, findAddress, addressEvent, eventIn, tenBitHeader, beginAt, beginOf, sameStep}
 use Rattle.calls.specs.declared.Access.{Access}
 use Rattle.calls.specs.declared.Call.{Call}
 use Rattle.calls.specs.declared.Call.the-variants.{WaitForEvent}
@@ -25,7 +25,7 @@ use Rattle.calls.specs.declared.Effect.{Effect}
 use Rattle.calls.specs.declared.Effect.the-variants.{Goes, Loads, Notes, Next, Enters, Fails, Ends}
 use Rattle.calls.specs.declared.Modify.the-variants.{SbcOff, ReloadClear, SbcOn, ReloadOn}
 use Rattle.calls.specs.declared.Outcome.{Outcome}
-use Rattle.calls.specs.declared.Outcome.the-variants.{Done, EventRead, EventWrite}
+use Rattle.calls.specs.declared.Outcome.the-variants.{Done}
 use Rattle.calls.specs.declared.SavedCall.{SavedCall}
 use Rattle.calls.specs.declared.Step.{Step}
 use Rattle.calls.specs.declared.Step.the-variants.{Ended, Byte, Event, EventFlush, EventClear, Address, ModifyRead, ModifyWrite}
@@ -70,9 +70,6 @@ own-noted z (e ∷ es) = own-noted (note z e) es ∙ go (eqb (e .code) (offsetOf
     go false = refl
 
 -- ---- Where an event stands
-
-abbrev eventBy : Bool → ℕ → Outcome
-eventBy reads n = cond reads (EventRead n) (EventWrite n)
 
 -- the event that these words tell
 abbrev told : Words → Outcome
@@ -154,26 +151,11 @@ module _ (c : Call) (z : Words) (s : SavedCall) (a : ℕ) where
   abbrev P : Effect → Type 0
   P n = After c z s a n
 
-  enters : After c z s a (Enters (entryStep c))
-  enters =
-      by-test (Stands c z (Done 0)) (transaction c) (λ _. other tt tt) (λ _.
-      by-test (Stands c z (Done 0)) (manual c) (λ _. other tt tt) (λ _. other tt tt))
-
-  transfers : (some : Bool) → After c z s a (transferOf c some)
-  transfers some = by-test P some (λ _. enters) (λ _. other tt tt)
-
   over : (some : Bool) → Found z (s .outcome) → After c z s a (eventOf c some s)
-  over some f =
-      by-test P (isKind c WaitForEvent) (λ k. ended k f) (λ _.
-      by-test P (isEventRead (s .outcome))
-      (λ _. by-test P (transmits c) (λ _. transfers some) (λ _. other tt tt))
-      (λ _. by-test P (receives c) (λ _. transfers some) (λ _. other tt tt)))
+  over some f = search (by-test P, by-test (Stands c z (Done 0)), ended, other, tt) depth 16
 
   found : (some : Bool) → Found z (s .outcome) → After c z s a (addressFound c some s)
-  found some f =
-      by-test P (manual c)
-      (λ m. by-test P (isEventRead (s .outcome)) (λ _. cleared m f) (λ _. sbc-on f))
-      (λ _. over some f)
+  found some f = search (by-test P, over, cleared, sbc-on)
 
   finds : (some : Bool) → Matched z (s .outcome) → After c z s a (findAddress c some s)
   finds some m =
@@ -304,7 +286,7 @@ ended-so c z o (ended k g) x = (k, g)
 ended-so c z o (other n h) x = absurd (T-not (isEvent o) h x)
 
 pub events-named : (q : Request) (k : ℕ) (b l : List ℕ) → Events q (uncutOf q k (beginOf q) b l)
-events-named q k b l = record { read = at-end true; written = at-end false }
+events-named q k b l = at-end
   where
     U : Uncut
     U = uncutOf q k (beginOf q) b l

@@ -296,14 +296,7 @@ module _ (c : Call) (d : Description) (ops b : List ℕ) (As : List Advance) (s�
   -- ---- what an event says, a read or a write at the address n (document 02, R-5), by RM0492's bits
   module _ (reads : Bool) (n : ℕ) (e : s′ .step ≡ Ended) (o : s′ .outcome ≡ cond reads (EventRead n) (EventWrite n)) where
     named : EventAt q log reads n
-    named = rw (← log-is []) at (go reads refl)
-      where
-        L : List Entry
-        L = kept .one-run .log
-
-        go : (r : Bool) → reads ≡ r → EventAt q L reads n
-        go true i = rw i (kept .events .read n (record { ended = rw saved-is e; outcome = rw saved-is (rw i at o) }))
-        go false i = rw i (kept .events .written n (record { ended = rw saved-is e; outcome = rw saved-is (rw i at o) }))
+    named = rw (← log-is []) at (kept .events reads n (record { ended = rw saved-is e; outcome = rw saved-is o }))
 
     pub event-asked : T (numbered (8 ∷ 24 ∷ []) c)
     event-asked = event-is c (named .asked)

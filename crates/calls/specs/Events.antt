@@ -1,7 +1,7 @@
 -- What is promised of an event's address (document 01, "Target side", and document 02, R-5): it is the one that stands in the log. Assumes nothing.
 use Prim.Native.Nat.{ℕ}
 use mathlib.Core.Path.{_≡_}
-use mathlib.Core.Bool.{Bool, true, false, cond}
+use mathlib.Core.Bool.{Bool, true, cond}
 use mathlib.Core.List.{List, [], _∷_, _++_}
 use lib.Dec.{T, eqb}
 use lib.ListN.{length}
@@ -15,6 +15,7 @@ use Rattle.calls.specs.Calls.{Request, isKind}
 use Rattle.calls.specs.Run.{Entry, Uncut}
 use Rattle.calls.specs.Steps.{tenBitHeader}
 use Rattle.calls.specs.declared.Call.the-variants.{WaitForEvent}
+use Rattle.calls.specs.declared.Outcome.{Outcome}
 use Rattle.calls.specs.declared.Outcome.the-variants.{EventRead, EventWrite}
 
 -- the words that a log's reads of a register gave, in order
@@ -39,7 +40,11 @@ abbrev pub addressBy : ℕ → List ℕ → ℕ
 addressBy status [] = getOf status ISR-ADDCODE
 addressBy status (own ∷ owns) = cond (flagOf own OAR1-OA1MODE) (getOf own OAR1-OA1) (getOf status ISR-ADDCODE)
 
--- what the log of an event at the address n says, of a read or of a write
+-- an event at the address n: the controller reads, or it writes
+abbrev pub eventBy : Bool → ℕ → Outcome
+eventBy reads n = cond reads (EventRead n) (EventWrite n)
+
+-- what the log of such an event says
 pub record EventAt (q : Request) (log : List Entry) (reads : Bool) (n : ℕ) : Type 0 where
   -- only 8 and 24 say an address
   pub asked : T (isKind (q .call) WaitForEvent)
@@ -50,6 +55,6 @@ pub record EventAt (q : Request) (log : List Entry) (reads : Bool) (n : ℕ) : T
   pub own : length (readsOf Oar1 log) ≡ cond (tenBitHeader (getOf (statusIn log) ISR-ADDCODE)) 1 0
   pub address : n ≡ addressBy (statusIn log) (readsOf Oar1 log)
 
-pub record Events (q : Request) (U : Uncut) : Type 0 where
-  pub read : (n : ℕ) → EndedAs (EventRead n) U → EventAt q (U .log) true n
-  pub written : (n : ℕ) → EndedAs (EventWrite n) U → EventAt q (U .log) false n
+-- so it is of every run that ended as an event
+abbrev pub Events : Request → Uncut → Type 0
+Events q U = (reads : Bool) (n : ℕ) → EndedAs (eventBy reads n) U → EventAt q (U .log) reads n
