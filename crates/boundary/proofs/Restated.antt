@@ -112,10 +112,10 @@ module _ (C : AbiCall) where
   abbrev sizes : List ℕ
   sizes = (let (sizes, _) = C .left in sizes .now)
 
-  same-sizes : sizes ≡ 64 ∷ 32 ∷ 32 ∷ 8 ∷ 64 ∷ 65535 ∷ 13 ∷ 46 ∷ []
+  same-sizes : sizes ≡ 64 ∷ 36 ∷ 32 ∷ 8 ∷ 64 ∷ 65535 ∷ 13 ∷ 46 ∷ []
   same-sizes = ap (λ (A : AbiLeft). A .sizes) (C .contract)
 
-  abi-version : C .gave ≡ 2
+  abi-version : C .gave ≡ 3
   abi-version = ap (λ (A : AbiLeft). A .version) (C .contract)
 
   abi-saved : (s : SavedCall) → length (savedBytes s) ≡ getD sizes 1 0

@@ -15,8 +15,8 @@ use Rattle.registers.specs.declared.Register.the-variants.{Oar1}
 use Rattle.calls.proofs.Logic.{is-true, is-false}
 use Rattle.calls.specs.Advances.{Advance, made, joined, given, bufferAfter, savedAfter, Last, last, orElse, lastAccepted, Came, over, full, waiting, NoneRefused, Untouched, RefusedUntouched, AllRefused, answersIn, NoRun}
 use Rattle.calls.specs.Advances as advances
-use Rattle.calls.specs.Bytes.{EndedAs, callerBytes, readPlaces, bytesAt, writeCount}
-use Rattle.calls.specs.Calls.{Request, callNumber, transaction, manual, receives, transmits}
+use Rattle.calls.specs.Bytes.{EndedAs, callerBytes, readPlaces, bytesAt}
+use Rattle.calls.specs.Calls.{Request, callNumber, transaction, manual, receives, transmits, manualWrite}
 use Rattle.calls.specs.Demand.{left}
 use Rattle.calls.specs.Events.{statusIn, readsOf, addressBy}
 use Rattle.calls.specs.Next.{nextOf}
@@ -219,6 +219,16 @@ module _ (B : BeginCall) (Cs : List AdvanceCall) (z : B .gave ≡ 0)
   counted : saved .accesses ≡ min (length log) 4294967295
   counted = rw (← same-left, ran .kept .one-run .count) (ran .kept .accesses)
 
+  -- and the bytes put out are carried, by a manual write in a number of its own
+  carried-out : T (manualWrite (ran .call)) → saved .out ≡ min (length (putOut log)) (length begun + 1)
+  carried-out t = rw (← same-left) (ran .kept .carried .manual-write t)
+
+  carried-byte : T (transmits (ran .call)) → T (not (manual (ran .call))) → saved .byte ≡ min (length (putOut log)) (length begun + 1)
+  carried-byte t n = rw (← same-left) (ran .kept .carried .automatic t n)
+
+  none-carried : T (not (manualWrite (ran .call))) → saved .out ≡ 0
+  none-carried n = rw (← same-left) (ran .kept .carried .none n)
+
   -- an event says the address that stands in the log
   event-address : (reads : Bool) (n : ℕ) → saved .step ≡ Ended → saved .outcome ≡ cond reads (EventRead n) (EventWrite n) →
       n ≡ addressBy (statusIn log) (readsOf Oar1 log)
@@ -237,11 +247,8 @@ module _ (B : BeginCall) (Cs : List AdvanceCall) (z : B .gave ≡ 0)
     count-received : T (receives (ran .call)) → n ≡ length (takenIn log)
     count-received = ran .kept .count n ended-as .received
 
-    count-sent : T (transmits (ran .call)) → n ≡ writeCount (manual (ran .call)) (length begun) (length (putOut log))
+    count-sent : T (transmits (ran .call)) → n ≡ min (length (putOut log) - 1) (length begun)
     count-sent = ran .kept .count n ended-as .transmitted
-
-    no-more-than-sent : T (transmits (ran .call)) → n ≤ min (length (putOut log)) (length begun)
-    no-more-than-sent = ran .kept .count n ended-as .at-most
 
   -- any one of the calls
   module _ (before : List AdvanceCall) (C : AdvanceCall) (after : List AdvanceCall) (among : Cs ≡ before ++ C ∷ after) where

@@ -19,4 +19,4 @@ abbrev pub abiSizes : List ℕ
 abiSizes = 4 * 16 ∷ savedLength ∷ 8 * 4 ∷ 4 * 2 ∷ 64 ∷ 65535 ∷ length (reports 0 0) ∷ length steps ∷ []
 
 abbrev pub abiLeft : AbiLeft
-abiLeft = asAbiLeft 2 abiSizes
+abiLeft = asAbiLeft 3 abiSizes

@@ -29,7 +29,7 @@ pub extern "C" fn huskerivory_abi(sizes: &mut [u32; 8]) -> u32
     ensures { λ r. ⌜ asAbiLeft r (now (sizes .exit)) ≡ abiLeft ⌝ }
 {
     *sizes = [64, saved::LENGTH as u32, 32, 8, 64, 65535, 13, 46];
-    2
+    3
 }
 
 // A TIMINGR word, or the number of a refusal and word 0.

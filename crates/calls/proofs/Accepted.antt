@@ -1,15 +1,15 @@
 -- Accepted saved calls stay accepted, whatever is answered: what row 13 asks holds where a call begins, and after each
 -- of its accesses. Assumes nothing.
-use Prim.Native.Nat.{ℕ, _+_, _≤_, _<_, max}
+use Prim.Native.Nat.{ℕ, _+_, _≤_, _<_, min, max}
 use native.Mathlib.Omega.{arith}
 use mathlib.Core.Path.{subst⁻¹, _≡_}
 use mathlib.Core.Bool.{not, _||_}
 use mathlib.Core.List.{List}
-use lib.Dec.{T, T-not, eqb, ltb, ltb→lt, lt→ltb, leb→le, le→leb, eqb-refl, nleb→lt}
+use lib.Dec.{T, T-not, eqb, ltb, leb, ltb→lt, lt→ltb, leb→le, le→leb, eqb-refl, nleb→lt}
 use lib.ListN.{length}
 use Rattle.fields.proofs.Laws.{and-l, and-r}
-use Rattle.calls.specs.Calls.{Request, callNumber, isCall, transaction, receives, transmits}
-use Rattle.calls.specs.Pieces.{Piece, piecesFor, piecesOf, viewOf}
+use Rattle.calls.specs.Calls.{Request, callNumber, isCall, transaction, manualWrite, receives, transmits}
+use Rattle.calls.specs.Pieces.{Piece, piecesFor, piecesOf, mostOf, viewOf}
 use Rattle.calls.specs.Steps.{applyOf, sameStep, noted, afterOf, startAt, beginAt, beginOf}
 use Rattle.calls.specs.Refusals.{hasPieces, groupTaken, takes, accepts}
 use Rattle.calls.specs.declared.SavedCall.{SavedCall}
@@ -17,10 +17,14 @@ use Rattle.calls.specs.declared.Step.{Step}
 use Rattle.calls.specs.declared.Step.the-variants.{Ended, Byte, Address}
 use Rattle.calls.specs.declared.Effect.{Effect}
 use Rattle.calls.specs.declared.Effect.the-variants.{Goes, Loads, Notes, Next, Enters, Fails, Ends}
-use Rattle.calls.proofs.Logic.{only, only-not, only-if, if-only, and-in, or-0, or-1, or-else, by-test, both}
+use Rattle.calls.proofs.Logic.{only, only-yes, only-not, only-if, if-only, and-in, or-0, or-1, or-else, by-test, both}
 pub use Rattle.calls.proofs.Every.{is-eq}
 use Rattle.calls.proofs.Fits.{Fits, plain, fits}
 use Rattle.calls.proofs.Views.{noted-keeps, apply-keeps, notedIn, thenIn, after-noted, thereIn, sizeIn}
+
+-- the number of bytes put out that row 13 asks of a manual write
+abbrev pub Held : Request → ℕ → Type 0
+Held q m = only (manualWrite (q .call)) (T (leb m (mostOf q)))
 
 -- what row 13 leaves of a saved call that has not ended
 pub record Known (q : Request) (s : SavedCall) : Type 0 where
@@ -28,6 +32,7 @@ pub record Known (q : Request) (s : SavedCall) : Type 0 where
   pub piece : s .piece < max 1 (length (piecesOf q))
   pub byte : s .byte ≤ sizeIn q s + 1
   pub byte-there : only (sameStep (s .step) Byte) (T (thereIn q s))
+  pub out : Held q (s .out)
 
 pub known : (q : Request) (s : SavedCall) → T (accepts q s) → T (not (sameStep (s .step) Ended)) → Known q s
 unfolding accepts
@@ -37,7 +42,7 @@ known q s h n =
 
 accept : (q : Request) (s : SavedCall) → T (eqb (s .call) (callNumber (q .call))) → Known q s → T (accepts q s)
 unfolding accepts
-accept q s c k = search (and-in, or-1, lt→ltb, le→leb, if-only) depth 9
+accept q s c k = search (and-in, or-1, lt→ltb, le→leb, if-only) depth 10
 
 accept-ended : (q : Request) (s : SavedCall) →
     T (eqb (s .call) (callNumber (q .call))) → T (sameStep (s .step) Ended) → T (accepts q s)
@@ -52,10 +57,18 @@ same-call q s h = and-l (eqb (s .call) (callNumber (q .call))) _ h
 pub record Noted (q : Request) (s : SavedCall) : Type 0 where
   pub piece : s .piece < max 1 (length (piecesOf q))
   pub byte : s .byte ≤ sizeIn q s + 1
+  pub out : Held q (s .out)
+
+-- what is held there is no more, and none at all is less
+held : (q : Request) (m : ℕ) → Held q (min m (mostOf q))
+held q m = only-yes (manualWrite (q .call)) (le→leb (min m (mostOf q)) (mostOf q) (omega arith))
+
+none-out : (q : Request) → Held q 0
+none-out q = only-yes (manualWrite (q .call)) (le→leb 0 (mostOf q) (omega arith))
 
 pub notes-well : (q : Request) (s : SavedCall) (a : ℕ) (t : Step) → Known q s → Noted q (noted (viewOf q s) s a t)
 notes-well q s a t k =
-    by-test (Noted q) (sameStep t Byte) (λ _. search arith) (λ _.
+    by-test (Noted q) (sameStep t Byte) (λ _. search (arith, held)) (λ _.
     by-test (Noted q) (sameStep t Address) (λ _. search) (λ _. search))
 
 no-byte : (q : Request) (s : SavedCall) (u : Step) → T (plain u) → only (sameStep u Byte) (T (thereIn q s))
@@ -69,7 +82,7 @@ applied q s a t (Loads u) k f = search no-byte
 applied q s a t (Notes o u) k f = search no-byte
 applied q s a t (Next u) k f =
     let h : s .piece + 1 < length (piecesOf q) = nleb→lt _ _ (f .why .1) in search (no-byte, arith)
-applied q s a t (Enters u) k f = search (no-byte, arith)
+applied q s a t (Enters u) k f = search (no-byte, none-out, arith)
 applied q s a t (Fails o) k f = search tt
 applied q s a t (Ends o) k f = search tt
 
@@ -122,4 +135,5 @@ accepted-begin q =
       piece = omega arith;
       byte = omega arith;
       byte-there = search (only-not, begins q);
+      out = none-out q;
     })

@@ -247,7 +247,7 @@ module _ (q : Request) (s : SavedCall) (b : List ℕ) (a : ℕ)
 
 -- an event's steps are taken before any byte is moved
 abbrev pub Fresh : Step → SavedCall → Type 0
-Fresh t s = T (inEvent t) → (s .piece ≡ 0) × (s .byte ≡ 0)
+Fresh t s = T (inEvent t) → (s .piece ≡ 0) × (s .byte ≡ 0) × (s .out ≡ 0)
 
 -- a transaction clears STOPF past its last byte, or with an error on its way
 abbrev Stopping : Request → Step → SavedCall → Type 0
@@ -272,7 +272,7 @@ module _ (q : Request) (s : SavedCall) (a : ℕ) (t : Step) (fresh : Fresh t s) 
   flushed-by : (n : Effect) → Fits q s t n → T (flushOk (stepOf n) (sameStep t FlushTxis) (sameStep t NackClear))
   flushed-by n f = and-l (flushOk (stepOf n) (sameStep t FlushTxis) (sameStep t NackClear)) _ (f .edge)
 
-  fresh-by : (n : Effect) → Fits q s t n → T (inEvent (stepOf n)) → (s .piece ≡ 0) × (s .byte ≡ 0)
+  fresh-by : (n : Effect) → Fits q s t n → T (inEvent (stepOf n)) → (s .piece ≡ 0) × (s .byte ≡ 0) × (s .out ≡ 0)
   fresh-by n f e = fresh (only-use (inEvent (stepOf n)) (T (inEvent t)) e (from-event t (stepOf n) (f .edge)))
 
   -- it ends as done only past the last byte of its last piece
@@ -315,8 +315,8 @@ module _ (q : Request) (s : SavedCall) (a : ℕ) (t : Step) (fresh : Fresh t s) 
       (λ w. sym (ahead-next w 0 (piecesOf q) (s .piece) (s .byte) (past q s (f .why .0))))
       (λ e. absurd (T-not (inEvent u) (f .why .3) e))
   onward (Enters u) f =
-      let z : (s .piece ≡ 0) × (s .byte ≡ 0) = fresh (f .why .0) in
-      plainly _ (f .why .1) (flushed-by (Enters u) f) (λ w. rw (z .0, z .1)) (λ _. (refl, refl))
+      let z = fresh (f .why .0) in
+      plainly _ (f .why .1) (flushed-by (Enters u) f) (λ w. rw (z .0, z .1)) (λ _. (refl, refl, refl))
   onward (Fails o) f = plainly _ tt (flushed-by (Fails o) f) (λ w. refl) (λ e. absurd e)
   onward (Ends o) f = record {
     ahead = λ w. refl;
@@ -328,20 +328,20 @@ module _ (q : Request) (s : SavedCall) (a : ℕ) (t : Step) (fresh : Fresh t s) 
 
 -- what a step notes first, but BYTE, is not of bytes
 module _ (q : Request) (s : SavedCall) (a : ℕ) (t : Step) where
-  pub by-noted : (P : ℕ → ℕ → Type 0) → T (not (sameStep t Byte)) → P (s .piece) (s .byte) →
-      P (noted (viewOf q s) s a t .piece) (noted (viewOf q s) s a t .byte)
+  pub by-noted : (P : ℕ → ℕ → ℕ → Type 0) → T (not (sameStep t Byte)) → P (s .piece) (s .byte) (s .out) →
+      P (noted (viewOf q s) s a t .piece) (noted (viewOf q s) s a t .byte) (noted (viewOf q s) s a t .out)
   by-noted P n h =
       by-test Q (sameStep t Byte) (λ y. absurd (T-not (sameStep t Byte) n y)) (λ _. by-test Q (sameStep t Address) (λ _. h) (λ _. h))
     where
       Q : SavedCall → Type 0
-      Q s′ = P (s′ .piece) (s′ .byte)
+      Q s′ = P (s′ .piece) (s′ .byte) (s′ .out)
 
   noted-ahead : T (not (sameStep t Byte)) → (w : Bool) → aheadOf w q (noted (viewOf q s) s a t) ≡ aheadOf w q s
-  noted-ahead n w = by-noted (λ i j. aheadFrom w 0 (piecesOf q) i j ≡ aheadOf w q s) n refl
+  noted-ahead n w = by-noted (λ i j o. aheadFrom w 0 (piecesOf q) i j ≡ aheadOf w q s) n refl
 
   pub noted-fresh : Fresh t s → Fresh t (noted (viewOf q s) s a t)
   noted-fresh h e =
-      both (sameStep t Byte) (λ y. absurd (rw (is-eq t Byte y) at e)) (λ n. by-noted (λ i j. (i ≡ 0) × (j ≡ 0)) n (h e))
+      both (sameStep t Byte) (λ y. absurd (rw (is-eq t Byte y) at e)) (λ n. by-noted (λ i j o. (i ≡ 0) × (j ≡ 0) × (o ≡ 0)) n (h e))
 
   noted-stopping : Stopping q t s → Stopping q t (noted (viewOf q s) s a t)
   noted-stopping h e x = let o : T (over q s) = h e x in rw (is-eq t StopClear e) o
@@ -474,7 +474,7 @@ begins q b =
     record {
       accepted = accepted-begin q;
       flush = and-l (flushOk t false false) _ r;
-      fresh = λ _. (refl, refl);
+      fresh = λ _. (refl, refl, refl);
       stopping = λ e _. absurd (T-not (sameStep t StopClear) (search (and-l, and-r)) e);
       finished = λ e _ _ w. ahead-none w 0 (piecesOf q) 0 0 (nltb→le 0 (length (piecesOf q))
           (only-use (sameStep t Ended) (T (not (hasPieces q))) e (only-if (sameStep t Ended) (not (hasPieces q)) (search and-r))));

@@ -1,7 +1,7 @@
 -- Document 01's "Proved cases" as one computed table: the twelve of the crate `timing`, and the run of call 7 that the
 -- section "Bench" prints. With them runs that pin the step tables, entry by entry; each row says which. They are the Rust's, as
--- `compare bench-text` prints them (of the first of `transfers` with document 01's outcome, of a board at 0x78 with document 02's address:
--- docs/DIFFERENCES.md). Assumes nothing.
+-- `compare bench-text` prints them (of the first of `transfers` with document 01's outcome, of a board at 0x78 with document 02's address, of
+-- `totals` with document 02's total: docs/DIFFERENCES.md). Assumes nothing.
 use Prim.Native.Nat.{ℕ, suc, _+_}
 use mathlib.Core.Path.{_≡_, refl}
 use mathlib.Core.List.{List, [], _∷_, _++_, map}
@@ -24,10 +24,11 @@ use Rattle.calls.specs.declared.Configuration.the-variants.{Unconfigured
 use Rattle.calls.specs.declared.Description.{Description}
 use Rattle.calls.specs.declared.Outcome.{Outcome}
 use Rattle.calls.specs.declared.Outcome.the-variants.{Done, Bus, Arbitration, Nack, Stopped, ExpectedWrite, ExpectedRead, EventRead, EventWrite, EventStop}
+use Rattle.calls.specs.declared.Refusal.the-variants.{SavedCall as BadSavedCall}
 use Rattle.calls.specs.declared.Report.{Report}
-use Rattle.calls.specs.declared.Report.the-variants.{Over, Full}
+use Rattle.calls.specs.declared.Report.the-variants.{Over, Full, Refused}
 use Rattle.calls.specs.declared.SavedCall.{SavedCall}
-use Rattle.calls.specs.declared.Step.the-variants.{Wait}
+use Rattle.calls.specs.declared.Step.the-variants.{Ended, Wait, Event}
 
 -- what the bench prints of a call: how it ended, the answers used, the accesses, the buffer
 record Came : Type 0 where
@@ -97,6 +98,14 @@ starts d ops b log after =
       answered = run (record { report = Full; used = length l; log = log; buffer = after });
     }
 
+-- a saved call that row 13 refuses, with an answer and a place at hand
+abbrev refused : SavedCall → Description → List ℕ → Row
+refused s d b =
+    record {
+      asked = run d [] b s (0 ∷ []) 1;
+      answered = run (record { report = Refused BadSavedCall; used = 0; log = []; buffer = b });
+    }
+
 abbrev transactions : List Row
 transactions =
     -- document 01's run
@@ -147,14 +156,14 @@ abbrev long : List Row
 long =
     -- 256 bytes: 255 with RELOAD, then one with AUTOEND and no START, SADD or RD_WRN; TCR ends the first piece and TC does not
     starts (plain 7 0x50) (256 ∷ []) (replicate 256 0) (w 0x04 0x01FF20A0 ∷ r 0x18 1 ∷ r 0x04 0 ∷ r 0x18 2 ∷ w 0x28 0 ∷ []) (replicate 256 0)
-    ∷ resumed (savedAt (freshAt 7 Wait) Wait 0 254 0 (Done 0) 511) (plain 7 0x50) (256 ∷ []) (replicate 256 0) (Done 0)
+    ∷ resumed (savedAt (freshAt 7 Wait) Wait 0 254 0 0 (Done 0) 511) (plain 7 0x50) (256 ∷ []) (replicate 256 0) (Done 0)
     (r 0x18 2 ∷ w 0x28 0 ∷ r 0x18 0x40 ∷ r 0x18 0x80 ∷ w 0x04 0x02010000 ∷ r 0x18 1 ∷ r 0x04 0 ∷ r 0x18 2 ∷ w 0x28 0 ∷ r 0x18 0x20 ∷ w 0x1C 0x20 ∷ [])
     (replicate 256 0)
     -- ten bits, a write of 1 and a read of 256: HEAD10R stands where the read starts, and RD_WRN in both of its pieces
     ∷ starts (description 7 0x123 AddressMode10bit 0 Unconfigured) (1 ∷ 0x10100 ∷ []) (replicate 257 0x11)
     (w 0x04 0x00012923 ∷ r 0x18 1 ∷ r 0x04 0 ∷ r 0x18 2 ∷ w 0x28 0x11 ∷ r 0x18 0x40 ∷ w 0x04 0x01FF3D23 ∷ r 0x18 1 ∷ r 0x04 0 ∷ r 0x18 4 ∷ r 0x24 0x22 ∷ [])
     (0x11 ∷ 0x22 ∷ replicate 255 0x11)
-    ∷ resumed (savedAt (freshAt 7 Wait) Wait 1 254 0 (Done 0) 517)
+    ∷ resumed (savedAt (freshAt 7 Wait) Wait 1 254 0 0 (Done 0) 517)
     (description 7 0x123 AddressMode10bit 0 Unconfigured) (1 ∷ 0x10100 ∷ []) (replicate 257 0x11) (Done 0)
     (r 0x18 4 ∷ r 0x24 0x22 ∷ r 0x18 0x80 ∷ w 0x04 0x02010400 ∷ r 0x18 1 ∷ r 0x04 0 ∷ r 0x18 4 ∷ r 0x24 0x33 ∷ r 0x18 0x20 ∷ w 0x1C 0x20 ∷ [])
     (replicate 255 0x11 ++ 0x22 ∷ 0x33 ∷ [])
@@ -240,11 +249,61 @@ transfers =
     (0x5A ∷ [])
     -- after 254 bytes of the first block, the end of a run of 523 accesses: NBYTES is set anew, ADDRCF is not cleared again, a zero follows
     -- the last byte
-    ∷ resumed (savedAt (freshAt 26 Wait) Wait 0 254 0 (Done 0) 511)
+    ∷ resumed (savedAt (freshAt 26 Wait) Wait 0 254 254 0 (Done 0) 511)
     (plain 26 0) [] (replicate 256 0x5A) (Done 256)
     (r 0x18 2 ∷ w 0x28 0x5A ∷ r 0x04 0x00FF0000 ∷ w 0x04 0x00010000 ∷ r 0x18 2 ∷ w 0x28 0x5A ∷ r 0x18 2 ∷ w 0x28 0
     ∷ r 0x18 0x10 ∷ w 0x1C 0x10 ∷ r 0x18 1 ∷ r 0x18 1 ∷ [])
     (replicate 256 0x5A)
+    ∷ []
+
+-- Document 02, R-6: what a manual write counts. The totals at a later block's byte 0 are not the Rust's, and a made-up saved call has no
+-- counterpart there.
+abbrev totals : List Row
+totals =
+    -- a NACK right after the first of two blocks: of 255 bytes put out one was not sent, whether the block that follows is the last one ..
+    resumed (savedAt (freshAt 26 Wait) Wait 0 254 254 0 (Done 0) 511) (plain 26 0) [] (replicate 256 0x5A) (Done 254)
+    (r 0x18 2 ∷ w 0x28 0x5A ∷ r 0x04 0 ∷ w 0x04 0x00010000 ∷ r 0x18 0x11 ∷ w 0x1C 0x10 ∷ r 0x18 1 ∷ r 0x18 1 ∷ [])
+    (replicate 256 0x5A)
+    -- .. or not
+    ∷ resumed (savedAt (freshAt 26 Wait) Wait 0 254 254 0 (Done 0) 511) (plain 26 0) [] (replicate 511 0x5A) (Done 254)
+    (r 0x18 2 ∷ w 0x28 0x5A ∷ r 0x04 0 ∷ w 0x04 0x00FF0000 ∷ r 0x18 0x11 ∷ w 0x1C 0x10 ∷ r 0x18 1 ∷ r 0x18 1 ∷ [])
+    (replicate 511 0x5A)
+    -- and after the second of three
+    ∷ resumed (savedAt (freshAt 26 Wait) Wait 1 254 509 0 (Done 0) 1023) (plain 26 0) [] (replicate 511 0x5A) (Done 509)
+    (r 0x18 2 ∷ w 0x28 0x5A ∷ r 0x04 0 ∷ w 0x04 0x00010000 ∷ r 0x18 0x11 ∷ w 0x1C 0x10 ∷ r 0x18 1 ∷ r 0x18 1 ∷ [])
+    (replicate 511 0x5A)
+    -- a filling zero counts as put out, three of them no more than one
+    ∷ ran (plain 26 0) [] (0x5A ∷ []) (Done 1)
+    (r 0x04 0 ∷ w 0x04 0x00010000 ∷ w 0x1C 8 ∷ r 0x18 2 ∷ w 0x28 0x5A ∷ r 0x18 2 ∷ w 0x28 0 ∷ r 0x18 0x10 ∷ w 0x1C 0x10 ∷ r 0x18 0 ∷ r 0x18 1 ∷ [])
+    (0x5A ∷ [])
+    ∷ ran (plain 26 0) [] (0x5A ∷ []) (Done 1)
+    (r 0x04 0 ∷ w 0x04 0x00010000 ∷ w 0x1C 8 ∷ r 0x18 2 ∷ w 0x28 0x5A ∷ r 0x18 2 ∷ w 0x28 0 ∷ r 0x18 2 ∷ w 0x28 0 ∷ r 0x18 2 ∷ w 0x28 0
+    ∷ r 0x18 0x10 ∷ w 0x1C 0x10 ∷ r 0x18 0 ∷ r 0x18 1 ∷ [])
+    (0x5A ∷ [])
+    -- the byte of a flush does not
+    ∷ ran (plain 26 0) [] (0x5A ∷ []) (Done 0)
+    (r 0x04 0 ∷ w 0x04 0x00010000 ∷ w 0x1C 8 ∷ r 0x18 2 ∷ w 0x28 0x5A ∷ r 0x18 0x10 ∷ w 0x1C 0x10 ∷ r 0x18 2 ∷ w 0x28 0 ∷ r 0x18 1 ∷ [])
+    (0x5A ∷ [])
+    -- made-up saved calls: the total comes from the number that is carried, not from the byte
+    ∷ resumed (savedAt (freshAt 26 Wait) Wait 0 1 3 0 (Done 0) 0) (plain 26 0) [] (0x5A ∷ 0x5B ∷ []) (Done 2)
+    (r 0x18 0x11 ∷ w 0x1C 0x10 ∷ r 0x18 1 ∷ r 0x18 1 ∷ [])
+    (0x5A ∷ 0x5B ∷ [])
+    -- 28 starts it at 0 with its transfer
+    ∷ resumed (savedAt (freshAt 28 Event) Event 0 0 3 0 (Done 0) 0) (plain 28 0) [] (0x5A ∷ 0x5B ∷ []) (Done 0)
+    (r 0x18 0x00430009 ∷ r 0x00 0x10001 ∷ w 0x00 1 ∷ r 0x04 0x01FF0000 ∷ w 0x04 0 ∷ w 0x1C 8 ∷ r 0x04 0 ∷ w 0x04 0x00020000 ∷ w 0x1C 8
+    ∷ r 0x18 0x11 ∷ w 0x1C 0x10 ∷ r 0x18 1 ∷ r 0x18 1 ∷ [])
+    (0x5A ∷ 0x5B ∷ [])
+    -- one more than the buffer's length + 1 is refused, in the event too
+    ∷ refused (savedAt (freshAt 26 Wait) Wait 0 1 4 0 (Done 0) 0) (plain 26 0) (0x5A ∷ 0x5B ∷ [])
+    ∷ refused (savedAt (freshAt 28 Event) Event 0 0 4 0 (Done 0) 0) (plain 28 0) (0x5A ∷ 0x5B ∷ [])
+    -- unless the call has ended; and in other calls the number is not looked at
+    ∷ resumed (savedAt (freshAt 26 Ended) Ended 0 1 4 0 (Done 7) 0) (plain 26 0) [] (0x5A ∷ 0x5B ∷ []) (Done 7) [] (0x5A ∷ 0x5B ∷ [])
+    ∷ resumed (savedAt (freshAt 10 Wait) Wait 0 2 4 0 (Done 0) 0) (plain 10 0) [] (0x5A ∷ 0x5B ∷ []) (Done 1)
+    (r 0x18 0x11 ∷ w 0x1C 0x10 ∷ r 0x18 1 ∷ r 0x18 1 ∷ [])
+    (0x5A ∷ 0x5B ∷ [])
+    ∷ resumed (savedAt (freshAt 25 Wait) Wait 0 1 4 0 (Done 0) 0) (plain 25 0) [] (0x5A ∷ 0x5B ∷ []) (Done 2)
+    (r 0x18 4 ∷ r 0x24 0x77 ∷ [])
+    (0x5A ∷ 0x77 ∷ [])
     ∷ []
 
 -- set up, listening, reset, and the ends of a manual transfer
@@ -278,7 +337,7 @@ controls =
     ∷ []
 
 abbrev table : List Row
-table = map fromTiming cases ++ transactions ++ long ++ events ++ transfers ++ controls
+table = map fromTiming cases ++ transactions ++ long ++ events ++ transfers ++ totals ++ controls
 
 proved-cases : map (λ (r : Row). answerTo (r .asked)) table ≡ map (λ (r : Row). r .answered) table
 unfolding timingOf bandOf inBandOf equalAt doubleAt getOf bitsAt putOf withBits unpackOf isCall isKind manual piecesFor lookupOf verdictOf checkOf groupTaken accepts begunOf advanceFrom runOf cr2Of timingrOf oar1Of oar2Of alterOf accessOf afterOf beginOf

@@ -1,20 +1,21 @@
--- What `done` says of a target transfer is what happened: the bytes that came in, or document 01's count of those put
--- out. Assumes nothing.
-use Prim.Native.Nat.{ℕ, zero, suc, _+_, _-_, _*_, _/_, _≤_, _<_, min, max}
+-- What `done` says of a target transfer is what happened: the bytes that came in, or one less than were put out (document 02, R-6);
+-- and what a saved call carries of them. Assumes nothing.
+use Prim.Native.Nat.{ℕ, zero, suc, _+_, _-_, _*_, _/_, _≤_, _<_, min}
 use native.Mathlib.Omega.{arith}
-use mathlib.Core.Path.{subst⁻¹, _≡_, refl, sym, ap, ap₂, _∙_}
+use mathlib.Core.Path.{subst⁻¹, _≡_, refl, sym, ap, _∙_}
 use mathlib.Core.Bool.{Bool, true, false, cond, not, _&&_, _||_}
 use mathlib.Core.List.{List, [], _∷_, _++_, append-nil}
-use lib.Dec.{T, T-not, not-T, ltb, ltb→lt, nltb→le, nleb→lt, leb→le}
+use lib.Dec.{T, T-not, not-T, ltb, ltb→lt, nleb→lt, leb→le}
 use lib.ListN.{length, length-append}
+use Rattle.fields.proofs.Laws.{and-l, and-r}
 use Rattle.registers.specs.declared.Register.the-variants.{Txdr}
-use Rattle.calls.specs.Bytes.{writeCount, EndedAs, Count}
-use Rattle.calls.specs.Calls.{Request, isCall, isKind, manual, transaction, receives, transmits}
+use Rattle.calls.specs.Bytes.{EndedAs, Count, Carried}
+use Rattle.calls.specs.Calls.{Request, isCall, isKind, manual, transaction, receives, transmits, manualWrite}
 use Rattle.calls.specs.Outcomes.{isDone}
-use Rattle.calls.specs.Pieces.{blocksOf, piecesOf, pieceAt, viewOf}
+use Rattle.calls.specs.Pieces.{blocksOf, piecesOf, pieceAt, mostOf, viewOf}
 use Rattle.calls.specs.Refusals.{listed, takes, takesGroup, groupTaken, timing, own, second, enable, peOn, listen, reloadOff}
 use Rattle.calls.specs.Run.{Entry, byteOf, outOf, inOf, Uncut, uncutOf, putOut, takenIn}
-use Rattle.calls.specs.Steps.{countOf, awaited, waitAt, byteMoved, effectAt, applyOf, counted, noted, accessAt, accessOf, afterOf, beginOf, sameStep}
+use Rattle.calls.specs.Steps.{bytesPut, countOf, awaited, waitAt, byteMoved, effectAt, applyOf, counted, noted, accessAt, accessOf, afterOf, beginOf, sameStep}
 use Rattle.calls.specs.declared.Access.the-variants.{Take, Write}
 use Rattle.calls.specs.declared.Flag.{Flag}
 use Rattle.calls.specs.declared.Flag.the-variants.{Rxne, Txis, Tc, Tcr, Stopf, Never}
@@ -32,7 +33,7 @@ use Rattle.calls.proofs.Fits.{inEvent, flushOk, Fits, AllRead, all-read
 use Rattle.calls.proofs.Along.{entryOf, readLog, Keeps, along}
 use Rattle.calls.proofs.Places.{is-true, is-false, transfer-pieces}
 use Rattle.calls.proofs.Bytes.{not-transmits, not-receives, no-transaction, past, quiet, not-two, not-end, Front, whole, Fresh, by-noted, noted-fresh, Seen, note, unseen, seen-out, seen-got, Inv, at-byte, Taken, step-taken, keeps, begins}
-use Rattle.calls.proofs.Views.{notedIn, after-noted, thereIn, lastIn, sizeIn}
+use Rattle.calls.proofs.Views.{notedIn, thenIn, after-noted, thereIn, lastIn, sizeIn}
 
 abbrev target : Request → Bool
 target q = receives (q .call) || transmits (q .call)
@@ -150,61 +151,25 @@ module _ (q : Request) (x : T (target q)) where
   full : (i : ℕ) → i + 1 < length (piecesOf q) → pieceAt (piecesOf q) i .size ≡ 255
   full i l = both (manual (q .call)) (λ m. omega (arith, blocks m i)) (λ m. omega (arith, single m))
 
--- ---- Where a transfer stands, in block i at byte j, once m bytes are moved
+-- ---- Where a transfer stands, in block i at byte j with o carried as put out, once m bytes are moved
 
-record Stands (q : Request) (m i j : ℕ) : Type 0 where
-  bound : i < max 1 (length (piecesOf q))
-  start : 255 * i ≤ m
-  byte : j ≡ min (m - 255 * i) (pieceAt (piecesOf q) i .size + 1)
-  -- only the last block is passed, and only by filling zeros
-  running : i + 1 < length (piecesOf q) → m < 255 * i + 255
-  within : T (receives (q .call)) → m ≤ 255 * i + pieceAt (piecesOf q) i .size
+record Stands (q : Request) (m i j o : ℕ) : Type 0 where
+  -- no block but the last is left whole
+  running : i + 1 < length (piecesOf q) → j < 255
+  received : T (receives (q .call)) → m ≡ 255 * i + j
+  put : T (transmits (q .call)) → cond (manual (q .call)) o j ≡ min m (q .size + 1)
 
--- so the count of the bytes moved is document 01's
-counted-in : (q : Request) (m i j : ℕ) → T (receives (q .call)) → Stands q m i j → 255 * i + cond (receives (q .call)) j (j - 1) ≡ m
-counted-in q m i j r s = let w = s .within r in rw (is-true (receives (q .call)) r) (omega (arith, s .byte, w, s .start))
+-- one more is put out: a manual write counts it, an automatic one numbers it
+more-put : (w : Bool) (o j k m n most : ℕ) → (T w → most ≡ n + 1) → (T (not w) → k ≡ min (j + 1) (n + 1)) →
+    cond w o j ≡ min m (n + 1) → cond w (min (o + 1) most) k ≡ min (m + 1) (n + 1)
+more-put true o j k m n most h g e = omega (arith, h tt)
+more-put false o j k m n most h g e = omega (arith, g tt)
 
-count-from : (start m n size j : ℕ) → j ≡ min (m - start) (size + 1) →
-    size ≤ n - start → (size < n - start → m - start ≤ size) → start + (j - 1) ≡ start + min (m - start - 1) (n - start)
-count-from start m n size j b h f = rw b (ap (λ (k : ℕ). start + k) (capped (m - start) (n - start) h f))
-  where
-    capped : (e rest : ℕ) → size ≤ rest → (size < rest → e ≤ size) → min e (size + 1) - 1 ≡ min (e - 1) rest
-    capped e rest h f =
-        both (ltb size rest)
-        (λ l. let k : e ≤ size = f (ltb→lt size rest l) in omega arith)
-        (λ l. let k : rest ≤ size = nltb→le size rest l in omega arith)
-
-running-block : (n m i k : ℕ) → k ≡ (n + 254) / 255 → i < max 1 k → 255 * i ≤ m → (i + 1 < k → m < 255 * i + 255) →
-    min (m / 255) ((n - 1) / 255) ≡ i
-running-block n m i k e h g f =
-    both (ltb (i + 1) k)
-    (λ l. let y : i + 1 < k = ltb→lt (i + 1) k l in let z : m < 255 * i + 255 = f y in omega arith)
-    (λ l. let y : k ≤ i + 1 = nltb→le (i + 1) k l in omega arith)
-
-counted-out : (q : Request) (m i j : ℕ) → T (transmits (q .call)) → Stands q m i j →
-    255 * i + cond (receives (q .call)) j (j - 1) ≡ writeCount (manual (q .call)) (q .size) m
-counted-out q m i j t s =
-    let x : T (target q) = or-1 (receives (q .call)) (transmits (q .call)) t in
-    rw (is-false (receives (q .call)) (not-receives q t))
-    (both (manual (q .call))
-    (λ h.
-    let p = blocks q x h i in
-    rw (is-true (manual (q .call)) h, running-block (q .size) m i _ (p .1) (s .bound) (s .start) (s .running))
-    (count-from (255 * i) m (q .size) _ j (s .byte) (omega (arith, p .0)) (λ l.
-    let k : m < 255 * i + 255 = s .running (omega (arith, p .1, p .0)) in omega (arith, p .0))))
-    (λ h.
-    let p = single q x h in
-    let z : i ≡ 0 = omega (arith, s .bound) in
-    rw (is-false (manual (q .call)) h, z)
-    (count-from 0 m (q .size) _ j (rw z at (s .byte)) (omega (arith, p .0)) (λ l. absurd (omega (arith, p .0))))))
-
--- and never more than was put out, nor than the buffer has
-count-most : (a : Bool) (n m : ℕ) → writeCount a n m ≤ min m n
-count-most true n m = from (255 * min (m / 255) ((n - 1) / 255)) (omega arith) (omega arith)
-  where
-    from : (start : ℕ) → start ≤ m → start ≤ n → start + min (m - start - 1) (n - start) ≤ min m n
-    from start h g = omega arith
-count-most false n m = omega arith
+-- nothing is moved, nothing counts
+none-moved : (r w : Bool) (i j o : ℕ) → (i ≡ 0) × (j ≡ 0) × (o ≡ 0) → cond r (255 * i + j) (cond w o j - 1) ≡ 0
+none-moved true w i j o z = omega (arith, z .0, z .1)
+none-moved false true i j o z = omega (arith, z .2)
+none-moved false false i j o z = omega (arith, z .1)
 
 -- ---- Each access keeps it
 
@@ -212,7 +177,7 @@ abbrev movedOf : Request → Seen → ℕ
 movedOf q z = cond (receives (q .call)) (length (z .got)) (length (z .out))
 
 abbrev StandsAt : Request → ℕ → SavedCall → Type 0
-StandsAt q m s = Stands q m (s .piece) (s .byte)
+StandsAt q m s = Stands q m (s .piece) (s .byte) (s .out)
 
 -- a byte that is there and no filling zero
 own-byte : (q : Request) (s : SavedCall) → T (thereIn q s) → T (not (transmits (q .call) && lastIn q s)) → s .byte < sizeIn q s
@@ -226,39 +191,52 @@ module _ (q : Request) (s : SavedCall) (a m : ℕ) (x : T (target q)) (v : Stand
   abbrev later : Effect → Type 0
   later n = StandsAt q (m + 1) (applyOf (counted (viewOf q s) s) a n)
 
+  -- what is put out is one more, whatever byte number k follows
+  put-by : (k : ℕ) → (T (not (manual (q .call))) → k ≡ min (s .byte + 1) (q .size + 1)) → T (transmits (q .call)) →
+      cond (manual (q .call)) (counted (viewOf q s) s .out) k ≡ min (m + 1) (q .size + 1)
+  put-by k h t =
+      more-put (manual (q .call)) (s .out) (s .byte) k m (q .size) (mostOf q)
+      (λ w. rw (is-true (manual (q .call)) w, is-true (transmits (q .call)) t)) h (v .put t)
+
   -- BYTE is one more, in the same block or, where this one is full, in the next
-  same-block : T (thereIn q s) → (s .piece + 1 < length (piecesOf q) → m + 1 < 255 * s .piece + 255) →
+  same-block : T (thereIn q s) × (s .piece < length (piecesOf q)) → (s .piece + 1 < length (piecesOf q) → s .byte + 1 < 255) →
       StandsAt q (m + 1) (counted (viewOf q s) s)
   same-block h f = record {
-    bound = v .bound;
-    start = omega (arith, v .start);
-    byte = omega (arith, v .byte, v .start);
-    running = f;
-    within = λ r.
-        let l = own-byte q s h (not-and (transmits (q .call)) (lastIn q s) (not-transmits q r)) in
-        omega (arith, l, v .byte, v .start);
+    running = λ l. omega (arith, f l);
+    received = λ r.
+        let l = own-byte q s (h .0) (not-and (transmits (q .call)) (lastIn q s) (not-transmits q r)) in
+        omega (arith, l, v .received r);
+    put = put-by _ (λ n.
+        let p = single q x n in
+        let z : s .piece ≡ 0 = omega (arith, h .1, p .1) in
+        rw (z, p .0));
   }
 
-  next-block : T (not (lastIn q s)) → T (not (thereIn q (counted (viewOf q s) s))) → Stands q (m + 1) (s .piece + 1) 0
-  next-block l n =
+  next-block : T (thereIn q s) → T (not (lastIn q s)) → T (not (thereIn q (counted (viewOf q s) s))) →
+      Stands q (m + 1) (s .piece + 1) 0 (counted (viewOf q s) s .out)
+  next-block h l n =
       let i : s .piece + 1 < length (piecesOf q) = nleb→lt (length (piecesOf q)) (s .piece + 1) l in
-      let e : m + 1 ≡ 255 * (s .piece + 1) =
-      omega (arith, past q (counted (viewOf q s) s) n, full q x (s .piece) i, v .running i, v .byte) in
-      search arith
+      record {
+        running = λ _. omega arith;
+        received = λ r.
+            let j = own-byte q s h (not-and (transmits (q .call)) (lastIn q s) (not-transmits q r)) in
+            omega (arith, j, past q (counted (viewOf q s) s) n, full q x (s .piece) i, v .received r);
+        put = put-by 0 (λ w. absurd (omega (arith, i, single q x w .1)));
+      }
 
-  stands-byte : T (thereIn q s) → later (byteMoved (q .call) (viewOf q s) (counted (viewOf q s) s))
+  stands-byte : T (thereIn q s) × (s .piece < length (piecesOf q)) → later (byteMoved (q .call) (viewOf q s) (counted (viewOf q s) s))
   stands-byte h =
       by-test later (transaction (q .call) || thereIn q (counted (viewOf q s) s))
       (λ c. same-block h (λ l.
       let n : T (not (lastIn q s)) = not-T (lastIn q s) (λ k. omega (arith, leb→le (length (piecesOf q)) _ k)) in
       let y : T (thereIn q (counted (viewOf q s) s)) = or-else (transaction (q .call)) _ c (no-transaction q x) in
       let j = own-byte q (counted (viewOf q s) s) y (not-and-1 (transmits (q .call)) (lastIn q s) n) in
-      omega (arith, j, full q x (s .piece) l, v .byte, v .start))) (λ n.
+      omega (arith, j, full q x (s .piece) l))) (λ n.
       by-test later (lastIn q s)
       (λ l.
       let y = same-block h (λ k. absurd (omega (arith, leb→le (length (piecesOf q)) _ l))) in
       by-test later (receives (q .call) && not (manual (q .call))) (λ _. y) (λ _. y))
-      (λ l. next-block l (nor-1 (transaction (q .call)) (thereIn q (counted (viewOf q s) s)) n)))
+      (λ l. next-block (h .0) l (nor-1 (transaction (q .call)) (thereIn q (counted (viewOf q s) s)) n)))
 
   -- any other step moves none
   stands-after : (t : Step) (n : Effect) → Fresh t s → Fits q s t n → StandsAt q m (applyOf s a n)
@@ -267,13 +245,10 @@ module _ (q : Request) (s : SavedCall) (a m : ℕ) (x : T (target q)) (v : Stand
   stands-after t (Notes o u) e f = v
   stands-after t (Next u) e f =
       let l : s .piece + 1 < length (piecesOf q) = nleb→lt (length (piecesOf q)) (s .piece + 1) (f .why .1) in
-      absurd (omega (arith, past q s (f .why .0), full q x (s .piece) l, v .running l, v .byte))
-  stands-after t (Enters u) e f = let z = e (f .why .0) in rw (z .0, z .1) at v
+      absurd (omega (arith, past q s (f .why .0), full q x (s .piece) l, v .running l))
+  stands-after t (Enters u) e f = let z = e (f .why .0) in rw (z .0, z .1, z .2) at v
   stands-after t (Fails o) e f = v
   stands-after t (Ends o) e f = v
-
-none-moved : (q : Request) (i j : ℕ) → (i ≡ 0) × (j ≡ 0) → 255 * i + cond (receives (q .call)) j (j - 1) ≡ 0
-none-moved q i j z = by-test (λ n. 255 * i + n ≡ 0) (receives (q .call)) (λ _. omega arith) (λ _. omega arith)
 
 -- an ended transfer that is done says this count
 abbrev Says : Request → SavedCall → Type 0
@@ -289,7 +264,7 @@ says-after q s a t (Enters u) z f c e d = absurd (not-end u (f .why .1) e)
 says-after q s a t (Fails o) z f c e d = absurd e
 says-after q s a t (Ends o) z f c e d =
     let w = only-use (isDone o) _ d (c .why) in
-    w ∙ ap Done (by-test (λ n. n ≡ countOf (q .call) s) (inEvent t) (λ i. sym (none-moved q _ _ (z i))) (λ _. refl))
+    w ∙ ap Done (by-test (λ n. n ≡ countOf (q .call) s) (inEvent t) (λ i. sym (none-moved (receives (q .call)) (manual (q .call)) _ _ _ (z i))) (λ _. refl))
 
 -- the entry of BYTE is one more, that of any other step none
 module _ (q : Request) (s : SavedCall) (b : List ℕ) (a : ℕ) (z : Seen) (x : T (target q)) where
@@ -317,7 +292,7 @@ module _ (q : Request) (s : SavedCall) (b : List ℕ) (a : ℕ) (z : Seen) (x : 
       StandsAt q (after t) (applyOf (noted (viewOf q s) s a t) a (effectAt (q .call) (q .words) (viewOf q (noted (viewOf q s) s a t)) (noted (viewOf q s) s a t) a t))
   stands-moved t y h p v =
       let e = is-eq t Byte y in
-      rw (e, moved-byte (p .1) (not-two (z .two) (z .one) (rw e at h))) (stands-byte q s a (movedOf q z) x v (p .0))
+      rw (e, moved-byte (p .1) (not-two (z .two) (z .one) (rw e at h))) (stands-byte q s a (movedOf q z) x v p)
 
   stands-step : T (flushOk (s .step) (z .two) (z .one)) → Fresh (s .step) s → Taken q s a → StandsAt q (movedOf q z) s →
       StandsAt q (after (s .step)) (afterOf q s a)
@@ -352,12 +327,39 @@ counting-begins : (q : Request) (b : List ℕ) → Counting q (whole q b) unseen
 unfolding beginOf
 counting-begins q b = record {
   inv = begins q b;
-  stands = by-test (λ n. Stands q n 0 0) (receives (q .call)) (λ _. at-start) (λ _. at-start);
-  says = λ _ _. ap Done (sym (none-moved q 0 0 (refl, refl)));
+  stands = by-test (λ n. Stands q n 0 0 0) (receives (q .call)) (λ _. at-start) (λ _. at-start);
+  says = λ _ _. ap Done (sym (none-moved (receives (q .call)) (manual (q .call)) 0 0 0 (refl, refl, refl)));
 }
   where
-    at-start : Stands q 0 0 0
-    at-start = search arith
+    at-start : Stands q 0 0 0 0
+    at-start = record {
+      running = λ _. omega arith;
+      received = λ _. omega arith;
+      put = λ _. by-test (λ (n : ℕ). n ≡ min 0 (q .size + 1)) (manual (q .call)) (λ _. omega arith) (λ _. omega arith);
+    }
+
+-- ---- A call that is no manual write carries 0
+
+none-noted : (q : Request) (s : SavedCall) (a : ℕ) → T (not (manualWrite (q .call))) → s .out ≡ 0 → notedIn q s a .out ≡ 0
+none-noted q s a n h =
+    by-test Q (sameStep (s .step) Byte) (λ _. rw (is-false (manualWrite (q .call)) n) (omega arith))
+    (λ _. by-test Q (sameStep (s .step) Address) (λ _. h) (λ _. h))
+  where
+    Q : SavedCall → Type 0
+    Q x = x .out ≡ 0
+
+none-applied : (s : SavedCall) (a : ℕ) (n : Effect) → s .out ≡ 0 → applyOf s a n .out ≡ 0
+none-applied s a (Goes u) h = h
+none-applied s a (Loads u) h = h
+none-applied s a (Notes o u) h = h
+none-applied s a (Next u) h = h
+none-applied s a (Enters u) h = refl
+none-applied s a (Fails o) h = h
+none-applied s a (Ends o) h = h
+
+none-begun : (q : Request) → beginOf q .out ≡ 0
+unfolding beginOf
+none-begun q = refl
 
 -- ---- What it says of the uncut run
 
@@ -378,19 +380,35 @@ module _ (q : Request) (k : ℕ) (b l : List ℕ) where
       let d : U .saved .outcome ≡ Done (countOf (q .call) (U .saved)) = holds x .says (rw (e .ended) tt) (rw (e .outcome) tt) in
       cc (e .outcome)
 
+  out-is : T (transmits (q .call)) → movedOf q seen ≡ length (putOut (U .log))
+  out-is t = rw (is-false (receives (q .call)) (not-receives q t), seen-out unseen (U .log))
+
+  put-is : (t : T (transmits (q .call))) → bytesPut (q .call) (U .saved) ≡ min (length (putOut (U .log))) (q .size + 1)
+  put-is t = rw (out-is t) at (holds (or-1 (receives (q .call)) (transmits (q .call)) t) .stands .put t)
+
   pub done-count : (n : ℕ) → q .size ≡ length b → EndedAs (Done n) U → Count q b U n
   done-count n z e = record {
     received = λ r.
         let x : T (target q) = or-0 (receives (q .call)) (transmits (q .call)) r in
         let m : movedOf q seen ≡ length (takenIn (U .log)) = rw (is-true (receives (q .call)) r, seen-got unseen (U .log)) in
-        count-is x n e ∙ counted-in q (movedOf q seen) _ _ r (holds x .stands) ∙ m;
-    transmitted = transmitted;
-    at-most = λ t. rw (transmitted t) (count-most (manual (q .call)) (length b) (length (putOut (U .log))));
+        let c = rw (is-true (receives (q .call)) r) at (count-is x n e) in
+        c ∙ sym (holds x .stands .received r) ∙ m;
+    transmitted = λ t.
+        let c = rw (is-false (receives (q .call)) (not-receives q t)) at (count-is (or-1 (receives (q .call)) (transmits (q .call)) t) n e) in
+        c ∙ rw (put-is t, ← z) (omega arith);
+  }
+
+  pub carries : q .size ≡ length b → Carried q b U
+  carries z = record {
+    manual-write = λ w.
+        let m : T (manual (q .call)) = and-l (manual (q .call)) (transmits (q .call)) w in
+        (rw (is-true (manual (q .call)) m) at (put-is (and-r (manual (q .call)) (transmits (q .call)) w))) ∙ held;
+    automatic = λ t n. (rw (is-false (manual (q .call)) n) at (put-is t)) ∙ held;
+    none = λ n.
+        along q (Unit {0}) (λ z e. z) (λ z s b. s .out ≡ 0)
+        (λ z s b a h m. rw (after-noted q s a) (none-applied (notedIn q s a) a (thenIn q s a) (none-noted q s a n h)))
+        k tt (beginOf q) b l (none-begun q);
   }
     where
-      transmitted : T (transmits (q .call)) → n ≡ writeCount (manual (q .call)) (length b) (length (putOut (U .log)))
-      transmitted t =
-          let x : T (target q) = or-1 (receives (q .call)) (transmits (q .call)) t in
-          let m : movedOf q seen ≡ length (putOut (U .log)) =
-          rw (is-false (receives (q .call)) (not-receives q t), seen-out unseen (U .log)) in
-          count-is x n e ∙ counted-out q (movedOf q seen) _ _ t (holds x .stands) ∙ ap₂ (writeCount (manual (q .call))) z m
+      held : min (length (putOut (U .log))) (q .size + 1) ≡ min (length (putOut (U .log))) (length b + 1)
+      held = ap (λ (n : ℕ). min (length (putOut (U .log))) (n + 1)) z

@@ -4,7 +4,7 @@ use mathlib.Core.Path.{_≡_, refl, ap, _∙_, subst}
 use mathlib.Core.List.{List, [], _++_}
 use lib.ListN.{length}
 use Rattle.calls.specs.Advances.{Advance, Follows, given, made, OneRun, CutAnywhere}
-use Rattle.calls.specs.Bytes.{BytesOut, BytesIn, Count, EndedAs}
+use Rattle.calls.specs.Bytes.{BytesOut, BytesIn, Count, Carried, EndedAs}
 use Rattle.calls.specs.Calls.{Request}
 use Rattle.calls.specs.Events.{Events}
 use Rattle.calls.specs.Demand.{left, Kept, Demand3}
@@ -17,7 +17,7 @@ use Rattle.calls.specs.declared.Outcome.the-variants.{Done}
 use Rattle.calls.specs.declared.Verdict.{Verdict}
 use Rattle.calls.specs.declared.Verdict.the-variants.{Accepted, Refused}
 use Rattle.calls.proofs.Counter.{counts-accesses}
-use Rattle.calls.proofs.Counts.{done-count}
+use Rattle.calls.proofs.Counts.{done-count, carries}
 use Rattle.calls.proofs.Cut.{cut-anywhere}
 use Rattle.calls.proofs.Events.{events-named}
 use Rattle.calls.proofs.Fit.{accepted-fit}
@@ -37,6 +37,7 @@ kept c d ops b As e r =
       bytes-out = of-run q b As r (BytesOut q b) (λ k l. bytes-out q k b l refl);
       bytes-in = of-run q b As r (BytesIn q b) (λ k l. bytes-in q k b l refl (accepted-fit c d ops (length b) e .sum));
       count = of-run q b As r (λ U. (n : ℕ) → EndedAs (Done n) U → Count q b U n) (λ k l n h. done-count q k b l n refl h);
+      carried = of-run q b As r (Carried q b) (λ k l. carries q k b l refl);
       events = of-run q b As r (Events q) (λ k l. events-named q k b l);
       accesses =
           of-run q b As r (λ U. U .saved .accesses ≡ min (length (U .log)) 4294967295) (λ k l. counts-accesses q k b l)

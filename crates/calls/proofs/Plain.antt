@@ -14,7 +14,7 @@ use Rattle.registers.specs.Map.{offsetOf}
 use Rattle.registers.specs.declared.Register.{Register}
 use Rattle.calls.specs.Advances.{Advance, Meets, isRefusal, refused, Follows, none, but, then, made, joined, given, bufferAfter, savedAfter, answersIn}
 use Rattle.calls.specs.Bytes.{range, placesFrom, bytesAt, callerBytes, readPlaces}
-use Rattle.calls.specs.Calls.{Request, callNumber, isCall, isKind, transaction, manual, receives, transmits}
+use Rattle.calls.specs.Calls.{Request, callNumber, isCall, isKind, transaction, manual, receives, transmits, manualWrite}
 use Rattle.calls.specs.AlreadyCut.{sizes}
 use Rattle.calls.specs.Events.{readsOf, lastOf}
 use Rattle.calls.specs.Pieces.{Piece, pieceOf, cutOf, listPieces, piecesFor, piecesOf}
@@ -253,9 +253,6 @@ of-each f g t c h = implies (f c) (g c) (every (λ c. g c || not (f c)) t c) h
 pub auto-sender : (c : Call) → T (numbered (10 ∷ 12 ∷ []) c) → T (isSender c)
 auto-sender = of-each (numbered (10 ∷ 12 ∷ [])) isSender tt
 
-pub manual-sender : (c : Call) → T (numbered (26 ∷ 28 ∷ []) c) → T (isSender c)
-manual-sender = of-each (numbered (26 ∷ 28 ∷ [])) isSender tt
-
 pub is-auto : (c : Call) → T (numbered (10 ∷ 12 ∷ []) c) → T (not (manual c))
 unfolding manual
 is-auto = of-each (numbered (10 ∷ 12 ∷ [])) (λ c. not (manual c)) tt
@@ -264,9 +261,13 @@ pub event-is : (c : Call) → T (isKind c WaitForEvent) → T (numbered (8 ∷ 2
 unfolding isKind isCall
 event-is = of-each (λ c. isKind c WaitForEvent) (numbered (8 ∷ 24 ∷ [])) tt
 
-pub is-manual : (c : Call) → T (numbered (26 ∷ 28 ∷ []) c) → T (manual c)
-unfolding manual
-is-manual = of-each (numbered (26 ∷ 28 ∷ [])) manual tt
+pub is-manual-write : (c : Call) → T (numbered (26 ∷ 28 ∷ []) c) → T (manualWrite c)
+unfolding manual isKind isCall
+is-manual-write = of-each (numbered (26 ∷ 28 ∷ [])) manualWrite tt
+
+pub no-manual-write : (c : Call) → T (not (numbered (26 ∷ 28 ∷ []) c)) → T (not (manualWrite c))
+unfolding manual isKind isCall
+no-manual-write = of-each (λ c. not (numbered (26 ∷ 28 ∷ []) c)) (λ c. not (manualWrite c)) tt
 
 bytes-append : (b ks ls : List ℕ) → bytesAt b (ks ++ ls) ≡ bytesAt b ks ++ bytesAt b ls
 bytes-append b [] ls = refl

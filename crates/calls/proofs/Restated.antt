@@ -1,6 +1,6 @@
 -- What demand 3 and document 01's section "A call, from its entry" say of a begin and the advances after it, once more, fact by fact, in the
 -- words of Plain. Each theorem is read off `demand-3`: a statement that loses a fact, and its proof with it, fails here. Assumes nothing.
-use Prim.Native.Nat.{ℕ, zero, suc, _+_, _-_, _*_, _/_, _%_, _≤_, _<_, min}
+use Prim.Native.Nat.{ℕ, zero, suc, _+_, _-_, _/_, _%_, _≤_, _<_, min}
 use native.Mathlib.Omega.{arith}
 use mathlib.Core.Logic.{_≢_}
 use mathlib.Core.Path.{_≡_, refl, sym, ap, ap₂, _∙_, subst}
@@ -12,8 +12,8 @@ use lib.ListN.{length, getD, drop}
 use Rattle.fields.specs.Field.{bitsAt, getOf, number}
 use Rattle.calls.specs.Advances.{Advance, refused, made, joined, bufferAfter, savedAfter, nobody, last, lastAccepted, Came, over, full, waiting, LastCame, NoneRefused, RefusedUntouched, AllRefused, NoRun}
 use Rattle.calls.specs.AlreadyCut.{alreadyCut, sizes, AsCut}
-use Rattle.calls.specs.Bytes.{EndedAs, bytesAt, callerBytes, readPlaces, writeCount}
-use Rattle.calls.specs.Calls.{Request, transaction, manual}
+use Rattle.calls.specs.Bytes.{EndedAs, bytesAt, callerBytes, readPlaces}
+use Rattle.calls.specs.Calls.{Request, transaction}
 use Rattle.calls.specs.Demand.{left, Kept, Demand3}
 use Rattle.calls.specs.Events.{statusIn, addressBy, EventAt}
 use Rattle.calls.specs.Outcomes.{refusalNumber}
@@ -40,7 +40,7 @@ use Rattle.calls.proofs.Demand.{demand-3}
 use Rattle.calls.proofs.Every.{is-eq}
 use Rattle.calls.proofs.Fit.{accepted-fit}
 use Rattle.calls.proofs.Logic.{is-true, is-false}
-use Rattle.calls.proofs.Plain.{Refuses, LeftAlone, Leads, accesses, entries, answers, gave, received, readAt, sent, numbered, isTransaction, isSender, isReceiver, toSend, toFill, toKeep, accesses-are, entries-are, answers-are, is-refused, not-refused, refuses, led, gave-is, received-is, reads-are, sent-is, transaction-is, sender-is, receiver-is, auto-sender, manual-sender, is-auto, is-manual, event-is, last-word, fill-is, send-is, keep-is, padded}
+use Rattle.calls.proofs.Plain.{Refuses, LeftAlone, Leads, accesses, entries, answers, gave, received, readAt, sent, numbered, isTransaction, isSender, isReceiver, toSend, toFill, toKeep, accesses-are, entries-are, answers-are, is-refused, not-refused, refuses, led, gave-is, received-is, reads-are, sent-is, transaction-is, sender-is, receiver-is, auto-sender, is-auto, is-manual-write, no-manual-write, event-is, last-word, fill-is, send-is, keep-is, padded}
 
 begun-at : (c : Call) (d : Description) (ops : List ℕ) (n : ℕ) → checkOf d ops n ≡ Accepted c →
     begunOf d ops n .saved ≡ beginOf (requestOf c d ops n)
@@ -271,27 +271,45 @@ module _ (c : Call) (d : Description) (ops b : List ℕ) (As : List Advance) (s�
   pub count-received : T (isReceiver c) → s′ .step ≡ Ended → (n : ℕ) → s′ .outcome ≡ Done n → n ≡ length (received log)
   count-received t e n o = kept .count n (ended-as e n o) .received (rw (receiver-is c) t) ∙ ap length in-is
 
-  sent-count : T (isSender c) → s′ .step ≡ Ended → (n : ℕ) → s′ .outcome ≡ Done n → n ≡ writeCount (manual c) (length b) (length (sent log))
+  -- of 10, 12, 26 and 28 one less than was put out, but no more than the buffer has (document 02, R-6)
+  sent-count : T (isSender c) → s′ .step ≡ Ended → (n : ℕ) → s′ .outcome ≡ Done n → n ≡ min (length (sent log) - 1) (length b)
   sent-count t e n o =
       kept .count n (ended-as e n o) .transmitted (rw (sender-is c) t)
-      ∙ ap (λ (l : List ℕ). writeCount (manual c) (length b) (length l)) out-is
+      ∙ ap (λ (l : List ℕ). min (length l - 1) (length b)) out-is
 
-  -- of 10 and 12 one less than was put out, but no more than the buffer has
-  pub count-sent : T (numbered (10 ∷ 12 ∷ []) c) → s′ .step ≡ Ended → (n : ℕ) → s′ .outcome ≡ Done n →
-      n ≡ min (length (sent log) - 1) (length b)
-  count-sent t e n o = omega (arith, rw (is-false (manual c) (is-auto c t)) at (sent-count (auto-sender c t) e n o))
+  -- with nothing put out it is 0
+  pub count-none : T (isSender c) → sent log ≡ [] → s′ .step ≡ Ended → (n : ℕ) → s′ .outcome ≡ Done n → n ≡ 0
+  count-none t z e n o = sent-count t e n o ∙ ap (λ (l : List ℕ). min (length l - 1) (length b)) z ∙ omega arith
 
-  -- of 26 and 28 the same of the last block of 255 that was reached, and all of the blocks before it
-  pub count-sent-in-blocks : T (numbered (26 ∷ 28 ∷ []) c) → s′ .step ≡ Ended → (n : ℕ) → s′ .outcome ≡ Done n →
-      let whole : ℕ = 255 * min (length (sent log) / 255) ((length b - 1) / 255) in
-      n ≡ whole + min (length (sent log) - whole - 1) (length b - whole)
-  count-sent-in-blocks t e n o = rw (is-true (manual c) (is-manual c t)) at (sent-count (manual-sender c t) e n o)
+  -- up to one byte past the buffer, each counts as soon as the next is put out
+  pub count-sent : T (isSender c) → (m : ℕ) → length (sent log) ≡ m + 1 → m ≤ length b → s′ .step ≡ Ended → (n : ℕ) → s′ .outcome ≡ Done n → n ≡ m
+  count-sent t m z h e n o = omega (arith, sent-count t e n o)
 
-  -- and never more than was put out of the buffer
-  pub count-at-most : T (isSender c) → s′ .step ≡ Ended → (n : ℕ) → s′ .outcome ≡ Done n → (n ≤ length (sent log)) × (n ≤ length b)
-  count-at-most t e n o =
-      let h = kept .count n (ended-as e n o) .at-most (rw (sender-is c) t) in
-      (omega (arith, h, ap length out-is), omega (arith, h))
+  -- and however many zeros follow, the buffer's length is the most
+  pub count-most : T (isSender c) → length b < length (sent log) → s′ .step ≡ Ended → (n : ℕ) → s′ .outcome ≡ Done n → n ≡ length b
+  count-most t h e n o = omega (arith, sent-count t e n o)
+
+  -- ---- what the saved call carries of it, whether it has ended or not: 26 and 28 a number of their own ..
+  carried-out : T (numbered (26 ∷ 28 ∷ []) c) → s′ .out ≡ min (length (sent log)) (length b + 1)
+  carried-out t =
+      ap (λ (s : SavedCall). s .out) (sym saved-is) ∙ kept .carried .manual-write (is-manual-write c t)
+      ∙ ap (λ (l : List ℕ). min (length l) (length b + 1)) out-is
+
+  pub carried-in-blocks : T (numbered (26 ∷ 28 ∷ []) c) → length (sent log) ≤ length b + 1 → s′ .out ≡ length (sent log)
+  carried-in-blocks t h = omega (arith, carried-out t)
+
+  pub carried-held : T (numbered (26 ∷ 28 ∷ []) c) → length b < length (sent log) → s′ .out ≡ length b + 1
+  carried-held t h = omega (arith, carried-out t)
+
+  -- .. 10 and 12 the byte number ..
+  pub carried-at-once : T (numbered (10 ∷ 12 ∷ []) c) → s′ .byte ≡ min (length (sent log)) (length b + 1)
+  carried-at-once t =
+      ap (λ (s : SavedCall). s .byte) (sym saved-is) ∙ kept .carried .automatic (rw (sender-is c) (auto-sender c t)) (is-auto c t)
+      ∙ ap (λ (l : List ℕ). min (length l) (length b + 1)) out-is
+
+  -- .. and no other call any
+  pub carried-nowhere : T (not (numbered (26 ∷ 28 ∷ []) c)) → s′ .out ≡ 0
+  carried-nowhere n = ap (λ (s : SavedCall). s .out) (sym saved-is) ∙ kept .carried .none (no-manual-write c n)
 
   -- ---- what an event says, a read or a write at the address n (document 02, R-5), by RM0492's bits
   module _ (reads : Bool) (n : ℕ) (e : s′ .step ≡ Ended) (o : s′ .outcome ≡ cond reads (EventRead n) (EventWrite n)) where

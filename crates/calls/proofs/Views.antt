@@ -3,7 +3,7 @@ use Prim.Native.Nat.{ℕ, _+_}
 use mathlib.Core.Path.{_≡_, refl, sym, ap}
 use mathlib.Core.Bool.{Bool}
 use Rattle.calls.specs.Calls.{Request}
-use Rattle.calls.specs.Pieces.{piecesOf, viewAt, viewOf, byteThere}
+use Rattle.calls.specs.Pieces.{piecesOf, mostOf, viewAt, viewOf, byteThere}
 use Rattle.calls.specs.Steps.{applyOf, oneMore, effectAt, sameStep, noted, afterOf}
 use Rattle.calls.specs.declared.SavedCall.{SavedCall}
 use Rattle.calls.specs.declared.Step.{Step}
@@ -66,5 +66,5 @@ thenIn q s a = effectAt (q .call) (q .words) (viewOf q (notedIn q s a)) (notedIn
 pub after-noted : (q : Request) (s : SavedCall) (a : ℕ) → afterOf q s a ≡ applyOf (notedIn q s a) a (thenIn q s a)
 unfolding afterOf
 after-noted q s a =
-    ap (λ (i : ℕ). applyOf (notedIn q s a) a (effectAt (q .call) (q .words) (viewAt (piecesOf q) i) (notedIn q s a) a (s .step)))
+    ap (λ (i : ℕ). applyOf (notedIn q s a) a (effectAt (q .call) (q .words) (viewAt (piecesOf q) (mostOf q) i) (notedIn q s a) a (s .step)))
     (sym (noted-keeps (viewOf q s) s a (s .step) .0))

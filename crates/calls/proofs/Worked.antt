@@ -35,7 +35,7 @@ b = 0x12 ∷ 0x34 ∷ []
 
 -- the call after n accesses
 abbrev after : ℕ → ℕ → Step → SavedCall
-after n byte t = savedAt (freshAt 7 t) t 0 byte 0 (Done 0) n
+after n byte t = savedAt (freshAt 7 t) t 0 byte 0 0 (Done 0) n
 
 abbrev gave : ℕ → ℕ → SavedCall → Report → Advanced
 gave used written s r = record { used = used; written = written; saved = s; report = r }

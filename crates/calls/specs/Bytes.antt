@@ -1,12 +1,12 @@
 -- What is promised of a call's bytes (document 01, "A call, from its entry" and "Target side"): which bytes are the
 -- caller's, where those that come in go, and what `done` counts. Assumes nothing.
-use Prim.Native.Nat.{ℕ, zero, suc, _+_, _-_, _*_, _/_, _≤_, min}
+use Prim.Native.Nat.{ℕ, zero, suc, _+_, _-_, _≤_, min}
 use mathlib.Core.Path.{_≡_}
 use mathlib.Core.Bool.{Bool, true, false, cond, not, Bool·beq}
 use mathlib.Core.List.{List, [], _∷_, _++_}
 use lib.Dec.{T, eqb}
 use lib.ListN.{length, getD, take, drop, replicate}
-use Rattle.calls.specs.Calls.{Request, transaction, manual, receives, transmits}
+use Rattle.calls.specs.Calls.{Request, transaction, manual, receives, transmits, manualWrite}
 use Rattle.calls.specs.Pieces.{Piece, piecesOf}
 use Rattle.calls.specs.Refusals.{anyOf}
 use Rattle.calls.specs.Run.{Uncut, putOut, takenIn}
@@ -66,21 +66,17 @@ pub record BytesIn (q : Request) (b : List ℕ) (U : Uncut) : Type 0 where
   -- all are filled when a transaction is done
   pub done : T (transaction (q .call)) → (n : ℕ) → EndedAs (Done n) U → bytesAt (U .buffer) (readPlaces q) ≡ takenIn (U .log)
 
--- ---- Counts (section "Target side"). The byte that a NACK finds in TXDR was not sent, so one less than was put out of the
--- running block counts, but no less than none and no more than the block has.
-
--- where the running block starts, once m bytes of a buffer of n (and the zeros after them) are put out
-abbrev pub blockStart : Bool → ℕ → ℕ → ℕ
-blockStart manual n m = cond manual (255 * min (m / 255) ((n - 1) / 255)) 0
-
--- all earlier blocks are whole, and of this one m - start bytes were put out; n - start is the length of the last block,
--- and no other is put out beyond its length
-abbrev pub writeCount : Bool → ℕ → ℕ → ℕ
-writeCount manual n m = let start : ℕ = blockStart manual n m in start + min (m - start - 1) (n - start)
+-- ---- Counts (section "Target side", and document 02, R-6). The byte that a NACK finds in TXDR was not sent: one less counts than
+-- was put out in the whole call, filling zeros too, but no less than none and no more than the buffer has.
 
 -- what `done` with the count n says of a target transfer
 pub record Count (q : Request) (b : List ℕ) (U : Uncut) (n : ℕ) : Type 0 where
   pub received : T (receives (q .call)) → n ≡ length (takenIn (U .log))
-  pub transmitted : T (transmits (q .call)) → n ≡ writeCount (manual (q .call)) (length b) (length (putOut (U .log)))
-  -- never more than was put out of the buffer
-  pub at-most : T (transmits (q .call)) → n ≤ min (length (putOut (U .log))) (length b)
+  pub transmitted : T (transmits (q .call)) → n ≡ min (length (putOut (U .log)) - 1) (length b)
+
+-- what the saved call carries of it at any time: a manual write as a number of its own, which is 0 in every other call, an automatic
+-- one as the byte number of its one piece
+pub record Carried (q : Request) (b : List ℕ) (U : Uncut) : Type 0 where
+  pub manual-write : T (manualWrite (q .call)) → U .saved .out ≡ min (length (putOut (U .log))) (length b + 1)
+  pub automatic : T (transmits (q .call)) → T (not (manual (q .call))) → U .saved .byte ≡ min (length (putOut (U .log))) (length b + 1)
+  pub none : T (not (manualWrite (q .call))) → U .saved .out ≡ 0

@@ -1,7 +1,7 @@
 -- The listed calls with document 01's numbers, what each has to do with bytes and events, and what is asked of one.
 -- Assumes nothing.
 use Prim.Native.Nat.{ℕ, _+_}
-use mathlib.Core.Bool.{Bool, true, false, _||_}
+use mathlib.Core.Bool.{Bool, true, false, _&&_, _||_}
 use mathlib.Core.List.{List}
 use lib.Dec.{eqb, leb}
 use Rattle.calls.specs.declared.Ack.{Ack}
@@ -76,6 +76,10 @@ receives c = isKind c Read || isKind c WaitForTargetRead
 
 abbrev pub transmits : Call → Bool
 transmits c = isKind c Write || isKind c WaitForTargetWrite
+
+-- 26 and 28, which count what they put out (document 02, R-6)
+abbrev pub manualWrite : Call → Bool
+manualWrite c = manual c && transmits c
 
 abbrev pub eventful : Call → Bool
 eventful c = isKind c WaitForEvent || (isKind c WaitForTargetRead || (isKind c WaitForTargetWrite || isKind c WaitForStop))

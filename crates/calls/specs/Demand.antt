@@ -5,7 +5,7 @@ use mathlib.Core.Path.{_≡_}
 use mathlib.Core.List.{List}
 use lib.ListN.{length}
 use Rattle.calls.specs.Advances.{Advance, OneRun, NoRun, made, bufferAfter, savedAfter}
-use Rattle.calls.specs.Bytes.{BytesOut, BytesIn, Count, EndedAs}
+use Rattle.calls.specs.Bytes.{BytesOut, BytesIn, Count, Carried, EndedAs}
 use Rattle.calls.specs.Calls.{Request}
 use Rattle.calls.specs.Events.{Events}
 use Rattle.calls.specs.Refusals.{requestOf}
@@ -25,6 +25,7 @@ pub record Kept (q : Request) (b : List ℕ) (As : List Advance) : Type 0 where
   pub bytes-out : BytesOut q b (left q b As (one-run .log))
   pub bytes-in : BytesIn q b (left q b As (one-run .log))
   pub count : (n : ℕ) → EndedAs (Done n) (left q b As (one-run .log)) → Count q b (left q b As (one-run .log)) n
+  pub carried : Carried q b (left q b As (one-run .log))
   pub events : Events q (left q b As (one-run .log))
   pub accesses : savedAfter As (beginOf q) .accesses ≡ min (made As) 4294967295
 

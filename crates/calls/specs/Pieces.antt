@@ -6,7 +6,7 @@ use mathlib.Core.List.{List, [], _∷_, _++_}
 use lib.Dec.{eqb, ltb, leb}
 use lib.ListN.{length, getD}
 use Rattle.fields.specs.Field.{Place, place, bit, getOf, flagOf}
-use Rattle.calls.specs.Calls.{Request, transaction, manual, receives, transmits}
+use Rattle.calls.specs.Calls.{Request, transaction, manual, manualWrite, receives, transmits}
 use Rattle.calls.specs.declared.Call.{Call}
 use Rattle.calls.specs.declared.SavedCall.{SavedCall}
 use Rattle.calls.specs.declared.View.{View}
@@ -62,12 +62,14 @@ startFrom at (p ∷ ps) zero = at
 startFrom at (p ∷ ps) (suc i) = startFrom (at + p .size) ps i
 
 -- What a step sees of the pieces, at piece i: its place in the buffer, its length and direction, whether it is the last,
--- whether the next one goes the same way and whether the one before it did, and whether there is any piece at all.
-abbrev pub viewAt : List Piece → ℕ → View
-viewAt ps i =
+-- whether the next one goes the same way and whether the one before it did, and whether there is any piece at all. With it comes the
+-- most that the call counts as put out.
+abbrev pub viewAt : List Piece → ℕ → ℕ → View
+viewAt ps most i =
     record {
       start = startFrom 0 ps i;
       size = pieceAt ps i .size;
+      most = most;
       reads = pieceAt ps i .reads;
       last = leb (length ps) (i + 1);
       same = Bool·beq (pieceAt ps i .reads) (pieceAt ps (i + 1) .reads);
@@ -75,8 +77,16 @@ viewAt ps i =
       nonempty = ltb 0 (length ps);
     }
 
+-- A manual write carries the number of bytes that it has put out, held at the buffer's length + 1 (document 02, R-6). No other call
+-- counts any.
+abbrev pub mostFor : Call → ℕ → ℕ
+mostFor c n = cond (manualWrite c) (n + 1) 0
+
+abbrev pub mostOf : Request → ℕ
+mostOf q = mostFor (q .call) (q .size)
+
 abbrev pub viewOf : Request → SavedCall → View
-viewOf q s = viewAt (piecesOf q) (s .piece)
+viewOf q s = viewAt (piecesOf q) (mostOf q) (s .piece)
 
 -- A byte is there: one of the buffer's or, past the last byte that a target puts out, a filling zero.
 abbrev pub byteThere : Call → View → SavedCall → Bool

@@ -7,8 +7,8 @@ use mathlib.Core.List.{List, [], _∷_}
 use lib.Dec.{eqb, ltb, leb}
 use lib.ListN.{length}
 use Rattle.fields.specs.Field.{place, getOf}
-use Rattle.calls.specs.Calls.{Request, callNumber, isCall, transaction, manual, receives, transmits, eventful, isConfigured, hasSecondary}
-use Rattle.calls.specs.Pieces.{operation-length, piecesOf, viewAt, viewOf, byteThere}
+use Rattle.calls.specs.Calls.{Request, callNumber, isCall, transaction, manual, manualWrite, receives, transmits, eventful, isConfigured, hasSecondary}
+use Rattle.calls.specs.Pieces.{operation-length, piecesOf, mostOf, viewAt, viewOf, byteThere}
 use Rattle.calls.specs.Steps.{sameStep}
 use Rattle.calls.specs.declared.Ack.the-variants.{AutoAck, ManualAck}
 use Rattle.calls.specs.declared.AddressMode.{AddressMode}
@@ -128,7 +128,7 @@ checkOf d ops n = verdictBy (lookupOf (d .call)) d ops n
 
 -- ---- 13, saved call: its number is not the described call's; or it has not ended and stands at a step that this call never
 -- takes, at a piece that is not there (a call without pieces counts as having an empty one), at a byte number that no run
--- reaches, or at BYTE with no byte to move
+-- reaches, at BYTE with no byte to move or, in a manual write, with more bytes put out than it counts (document 02, R-6)
 
 -- the steps by groups
 pub data Group : Type 0 where
@@ -200,7 +200,7 @@ groupTaken c d nonempty manualEvents = manual c && eventful c
 
 -- the call has a piece
 abbrev pub hasPieces : Request → Bool
-hasPieces q = viewAt (piecesOf q) 0 .nonempty
+hasPieces q = viewAt (piecesOf q) (mostOf q) 0 .nonempty
 
 abbrev pub takesGroup : Request → Group → Bool
 takesGroup q g = groupTaken (q .call) (q .words) (hasPieces q) g
@@ -215,4 +215,5 @@ accepts q s =
     (takes q (s .step) &&
     (ltb (s .piece) (max 1 (length (piecesOf q))) &&
     (leb (s .byte) (viewOf q s .size + 1) &&
-    (not (sameStep (s .step) Byte) || byteThere (q .call) (viewOf q s) s)))))
+    ((not (sameStep (s .step) Byte) || byteThere (q .call) (viewOf q s) s) &&
+    (not (manualWrite (q .call)) || leb (s .out) (mostOf q)))))))

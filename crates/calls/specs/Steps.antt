@@ -11,7 +11,7 @@ use Rattle.registers.specs.Places.{CR1-PE, CR1-ANFOFF, CR2-START, OAR1-OA1MODE,
 use Rattle.registers.specs.declared.Register.the-variants.{Cr1, Cr2, Oar1, Oar2, Timingr, Isr, Icr, Txdr}
 use Rattle.calls.specs.Calls.{Request, callNumber, isCall, isKind, transaction, manual, receives, transmits, eventful, isConfigured, hasSecondary}
 use Rattle.calls.specs.Outcomes.{isDone, isEventRead, outcomeValue, readdressed}
-use Rattle.calls.specs.Pieces.{piecesOf, viewAt, viewOf, byteThere}
+use Rattle.calls.specs.Pieces.{piecesOf, mostOf, viewAt, viewOf, byteThere}
 use Rattle.calls.specs.Words.{cr2Of, timingrOf, oar1Of, oar2Of, registerOf, alterOf}
 use Rattle.calls.specs.declared.Call.{Call}
 use Rattle.calls.specs.declared.Description.{Description}
@@ -100,10 +100,15 @@ failing c s = transaction c && not (isDone (s .outcome))
 abbrev pub failOf : Call → SavedCall → Outcome → Effect
 failOf c s o = cond (transaction c && isDone (s .outcome)) (Fails o) (Ends o)
 
--- The bytes that a target transfer counts: all earlier blocks are whole; of a write one less than those put out of the
--- block, at least 0. (The byte number is held at the block's length + 1, so the count is capped at the length.)
+-- The bytes that a target has put out, held at the buffer's length + 1: a manual write carries their number, an automatic one is
+-- one piece, whose byte number it is (document 02, R-6).
+abbrev pub bytesPut : Call → SavedCall → ℕ
+bytesPut c s = cond (manual c) (s .out) (s .byte)
+
+-- The bytes that a target transfer counts: of a read all that came in, since all earlier blocks are whole; of a write one less than
+-- were put out, at least 0 and, as they are held, at most the buffer's length.
 abbrev pub countOf : Call → SavedCall → ℕ
-countOf c s = 255 * s .piece + cond (receives c) (s .byte) (s .byte - 1)
+countOf c s = cond (receives c) (255 * s .piece + s .byte) (bytesPut c s - 1)
 
 -- An automatic read sets NACK in CR2 once it is full or was stopped (section "Target side").
 abbrev pub transferOver : Call → SavedCall → Effect
@@ -249,12 +254,13 @@ effectAt c d v s a (ModifyWrite m) = writtenAt c v s m
 abbrev pub oneMore : ℕ → ℕ
 oneMore n = min (n + 1) 4294967295
 
-abbrev pub savedAt : SavedCall → Step → ℕ → ℕ → ℕ → Outcome → ℕ → SavedCall
-savedAt s t i j w o n =
+abbrev pub savedAt : SavedCall → Step → ℕ → ℕ → ℕ → ℕ → Outcome → ℕ → SavedCall
+savedAt s t i j m w o n =
     record {
       call = s .call;
       piece = i;
       byte = j;
+      out = m;
       word = w;
       accesses = n;
       outcome = o;
@@ -263,14 +269,14 @@ savedAt s t i j w o n =
 
 -- on to a step with what is on its way then
 abbrev pub goesTo : SavedCall → Step → Outcome → SavedCall
-goesTo s t o = savedAt s t (s .piece) (s .byte) (s .word) o (oneMore (s .accesses))
+goesTo s t o = savedAt s t (s .piece) (s .byte) (s .out) (s .word) o (oneMore (s .accesses))
 
 abbrev pub applyOf : SavedCall → ℕ → Effect → SavedCall
 applyOf s a (Goes t) = goesTo s t (s .outcome)
-applyOf s a (Loads t) = savedAt s t (s .piece) (s .byte) a (s .outcome) (oneMore (s .accesses))
+applyOf s a (Loads t) = savedAt s t (s .piece) (s .byte) (s .out) a (s .outcome) (oneMore (s .accesses))
 applyOf s a (Notes o t) = goesTo s t o
-applyOf s a (Next t) = savedAt s t (s .piece + 1) 0 (s .word) (s .outcome) (oneMore (s .accesses))
-applyOf s a (Enters t) = savedAt s t 0 0 (s .word) (Done 0) (oneMore (s .accesses))
+applyOf s a (Next t) = savedAt s t (s .piece + 1) 0 (s .out) (s .word) (s .outcome) (oneMore (s .accesses))
+applyOf s a (Enters t) = savedAt s t 0 0 0 (s .word) (Done 0) (oneMore (s .accesses))
 applyOf s a (Fails o) = goesTo s Wait o
 applyOf s a (Ends o) = goesTo s Ended o
 
@@ -331,16 +337,17 @@ steps =
 abbrev pub sameStep : Step → Step → Bool
 sameStep t u = eqb (stepNumber t) (stepNumber u)
 
--- What a step notes first: BYTE counts its byte, held at the piece's length + 1; ADDRESS keeps the address.
+-- What a step notes first: BYTE counts its byte, in the piece, held at its length + 1, and as put out; ADDRESS keeps the address.
 abbrev pub counted : View → SavedCall → SavedCall
-counted v s = savedAt s (s .step) (s .piece) (min (s .byte + 1) (v .size + 1)) (s .word) (s .outcome) (s .accesses)
+counted v s =
+    savedAt s (s .step) (s .piece) (min (s .byte + 1) (v .size + 1)) (min (s .out + 1) (v .most)) (s .word) (s .outcome) (s .accesses)
 
 -- Once OAR1 is read, its OA1 is the address only if its OA1MODE is 1; otherwise ADDCODE, the value of the event on its way, is (document 02, R-5).
 abbrev pub ownOr : ℕ → ℕ → ℕ
 ownOr code a = cond (flagOf a OAR1-OA1MODE) (getOf a OAR1-OA1) code
 
 abbrev pub found : SavedCall → ℕ → SavedCall
-found s a = savedAt s (s .step) (s .piece) (s .byte) (s .word) (readdressed (s .outcome) (ownOr (outcomeValue (s .outcome)) a)) (s .accesses)
+found s a = savedAt s (s .step) (s .piece) (s .byte) (s .out) (s .word) (readdressed (s .outcome) (ownOr (outcomeValue (s .outcome)) a)) (s .accesses)
 
 abbrev pub noted : View → SavedCall → ℕ → Step → SavedCall
 noted v s a t = cond (sameStep t Byte) (counted v s) (cond (sameStep t Address) (found s a) s)
@@ -362,6 +369,7 @@ freshAt n t =
       call = n;
       piece = 0;
       byte = 0;
+      out = 0;
       word = 0;
       accesses = 0;
       outcome = Done 0;
@@ -383,4 +391,4 @@ beginAt c nonempty =
     (cond nonempty (entryStep c) Ended))))))
 
 unfoldable pub beginOf : Request → SavedCall
-beginOf q = startAt (q .call) (beginAt (q .call) (viewAt (piecesOf q) 0 .nonempty))
+beginOf q = startAt (q .call) (beginAt (q .call) (viewAt (piecesOf q) (mostOf q) 0 .nonempty))

@@ -190,11 +190,13 @@ pub enum Step {
 }
 
 // A call between two advances. `piece` is the operation of a transaction or the block of a target transfer, `byte` the byte
-// within it, `word` what the running modify read; before the end `outcome` is what is on its way.
+// within it, `out` the bytes that a manual write has put out, `word` what the running modify read; before the end `outcome` is
+// what is on its way.
 pub struct SavedCall {
     pub call: u32,
     pub piece: u32,
     pub byte: u32,
+    pub out: u32,
     pub word: u32,
     pub accesses: u32,
     pub outcome: Outcome,
@@ -202,10 +204,12 @@ pub struct SavedCall {
 }
 
 // What a step sees of the running piece: its place in the buffer, its length and direction, whether it is the last, whether
-// the next piece goes the same way and whether the one before it did, and whether the call has any piece.
+// the next piece goes the same way and whether the one before it did, and whether the call has any piece; and `most`, the number
+// at which the call's `out` is held.
 pub struct View {
     pub start: u32,
     pub size: u32,
+    pub most: u32,
     pub reads: bool,
     pub last: bool,
     pub same: bool,

@@ -4,18 +4,19 @@ use native.Mathlib.Numerals.{add-one}
 use native.Mathlib.Omega.{arith}
 use borrow.Author.Tests.{ne-eqb, lt-ltb, le-ltb}
 use mathlib.Core.Path.{_≡_, sym, ap, _∙_}
-use mathlib.Core.Bool.{true, false, cond, _||_}
+use mathlib.Core.Bool.{true, false, cond, not, _||_}
 use mathlib.Core.List.{List, [], _∷_}
 use lib.Dec.{eqb, ltb, ltb→lt, nltb→le}
 use lib.ListN.{length, getD}
 use Rattle.fields.proofs.Laws.{get-lt}
 use Rattle.calls.proofs.AlreadyCut.{list-few}
+use Rattle.calls.proofs.Every.{every}
 use Rattle.calls.proofs.Fit.{Fit}
-use Rattle.calls.proofs.Logic.{both, is-true, is-false}
+use Rattle.calls.proofs.Logic.{both, implies, is-true, is-false}
 use Rattle.calls.proofs.Places.{sizes-for}
 use Rattle.calls.specs.AlreadyCut.{sizes}
-use Rattle.calls.specs.Calls.{transaction}
-use Rattle.calls.specs.Pieces.{Piece, operation-length, listPieces, transferPieces, piecesFor, pieceAt, startFrom, viewAt}
+use Rattle.calls.specs.Calls.{isCall, isKind, transaction, manual, manualWrite}
+use Rattle.calls.specs.Pieces.{Piece, operation-length, listPieces, transferPieces, piecesFor, pieceAt, startFrom, mostFor, viewAt}
 use Rattle.calls.specs.Refusals.{total}
 use Rattle.calls.specs.declared.Call.{Call}
 use Rattle.calls.specs.declared.View.{View}
@@ -29,6 +30,12 @@ start-inside : (at : ℕ) (ps : List Piece) (i : ℕ) → startFrom at ps i + pi
 start-inside at [] i = omega arith
 start-inside at (p ∷ ps) zero = omega arith
 start-inside at (p ∷ ps) (suc i) = omega (arith, start-inside (at + p .size) ps i)
+
+-- a transaction is no manual write, so its views have no `most`
+no-write : (c : Call) → transaction c ≡ true → manualWrite c ≡ false
+unfolding isCall isKind manual
+no-write c t =
+    is-false (manualWrite c) (implies (transaction c) (not (manualWrite c)) (every (λ x. not (manualWrite x) || not (transaction x)) tt c) (rw t tt))
 
 module _ (c : Call) (ops : List ℕ) (n : ℕ) where
   pub of-list : transaction c ≡ true → piecesFor c ops n ≡ listPieces ops
@@ -44,7 +51,7 @@ module _ (c : Call) (ops : List ℕ) (n : ℕ) where
     pub inside : (i : ℕ) → startFrom 0 (piecesFor c ops n) i + pieceAt (piecesFor c ops n) i .size ≤ n
     inside i = omega (arith, start-inside 0 (piecesFor c ops n) i, sizes-for c ops n (f .sum))
 
-    pub view-small : (v : View) (i : ℕ) → v ≡ viewAt (piecesFor c ops n) i → v .size ≤ 65535
+    pub view-small : (v : View) (i : ℕ) → v ≡ viewAt (piecesFor c ops n) (mostFor c n) i → v .size ≤ 65535
     view-small v i e = rw e (omega (arith, inside i, f .size))
 
     pub few-operations : transaction c ≡ true → length ops ≤ 64
@@ -72,7 +79,7 @@ module _ (c : Call) (ops : List ℕ) (n : ℕ) where
   -- ---- a transaction
   module _ (t : transaction c ≡ true) where
     pub cursor-is : (i : ℕ) → cursorBy ops (positionOf ops i) ≡ cursorAt c ops n i
-    cursor-is i = rw (of-list t, t, list-view-is ops i)
+    cursor-is i = rw (of-list t, t, no-write c t, list-view-is ops i)
 
     -- the next one lies where the code says
     after-is : (i : ℕ) → positionAfter ops (cursorAt c ops n i) ≡ positionOf ops (i + 1)
@@ -98,7 +105,7 @@ module _ (c : Call) (ops : List ℕ) (n : ℕ) where
     after-at p i j e f = rw (e, f) (after-is i)
 
   -- ---- a target transfer
-  pub transfer-cursor : transaction c ≡ false → (v : View) (i : ℕ) → v ≡ viewAt (transferPieces c n) i →
+  pub transfer-cursor : transaction c ≡ false → (v : View) (i : ℕ) → v ≡ viewAt (transferPieces c n) (mostFor c n) i →
       record { view = v; operation = 0; at = 0 } ≡ cursorAt c ops n i
   transfer-cursor t v i e = rw (e, of-transfer t, t)
 

@@ -245,7 +245,7 @@ reload-is ops (suc i) =
         let e : suc (u .operation) - 1 ≡ u .operation = omega arith in
         rw (is-false (goesOn ops (u .operation) (u .at)) h, e, ne-eqb (suc (u .operation)) 0 (λ e. omega arith))))
 
-pub list-view-is : (ops : List ℕ) (i : ℕ) → viewFrom ops (positionOf ops i) ≡ viewAt (listPieces ops) i
+pub list-view-is : (ops : List ℕ) (i : ℕ) → viewFrom ops (positionOf ops i) ≡ viewAt (listPieces ops) 0 i
 list-view-is ops i =
     let e : i + 1 ≡ suc i = omega arith in
     let f : positionOf ops i .operation + 1 ≡ suc (positionOf ops i .operation) = omega arith in

@@ -112,37 +112,37 @@ module _ (c : Call) (v : View) (s : SavedCall) (a : ℕ) where
 
 module _ (c : Call) (d : Description) (v : View) (s : SavedCall) (b l : List ℕ) (u : ℕ) (log : List ℕ) (at : ℕ) where
   -- an entry in the log, and t next
-  abbrev Turns : ℕ → ℕ → ℕ → ℕ → Step → List ℕ → Type 0
-  Turns code value u′ j t b′ =
-      asTurn (quickTurned s (quickly u′ j t)) b′ (set (set log at code) (at + 1) value) ≡ turnLeft c d v s b l u log at
+  abbrev Turns : ℕ → ℕ → ℕ → ℕ → ℕ → Step → List ℕ → Type 0
+  Turns code value u′ j m t b′ =
+      asTurn (quickTurned s (quickly u′ j m t)) b′ (set (set log at code) (at + 1) value) ≡ turnLeft c d v s b l u log at
 
   -- from the access of the step x, with its answer, and what follows
-  turns : (code value u′ a j : ℕ) (t x : Step) (b′ : List ℕ) → s .step ≡ x →
+  turns : (code value u′ a j m : ℕ) (t x : Step) (b′ : List ℕ) → s .step ≡ x →
       asMade (went u′ a) b′ (set (set log at code) (at + 1) value) ≡ madeBy s b l u log at (accessAt c d v b s x) →
-      movedBy s (quickly u′ j t) ≡ applyOf (noted v s a x) a (effectAt c d v (noted v s a x) a x) → Turns code value u′ j t b′
-  turns code value u′ a j t x b′ e m n =
+      movedBy s (quickly u′ j m t) ≡ applyOf (noted v s a x) a (effectAt c d v (noted v s a x) a x) → Turns code value u′ j m t b′
+  turns code value u′ a j m t x b′ e k n =
       goes c d v s (went u′ a) b′ _ (madeOf c d v s b l u log at)
-      (m ∙ ap (λ (y : Step). madeBy s b l u log at (accessAt c d v b s y)) (sym e)) refl _
+      (k ∙ ap (λ (y : Step). madeBy s b l u log at (accessAt c d v b s y)) (sym e)) refl _
       (n ∙ ap (λ (y : Step). applyOf (noted v s a y) a (effectAt c d v (noted v s a y) a y)) (sym e))
 
   pub waited : (t : Step) → sameStep (s .step) Wait ≡ true → ltb u (length l) ≡ true → effectAt c d v s (getD l u 0) Wait ≡ Goes t →
-      Turns (offsetOf Isr) (getD l u 0) (u + 1) (s .byte) t b
+      Turns (offsetOf Isr) (getD l u 0) (u + 1) (s .byte) (s .out) t b
   waited t w h e =
-      turns _ _ (u + 1) (getD l u 0) _ _ Wait _ (is-eq (s .step) Wait (rw w tt)) (rw h) (ap (applyOf s (getD l u 0)) (sym e))
+      turns _ _ (u + 1) (getD l u 0) _ _ _ Wait _ (is-eq (s .step) Wait (rw w tt)) (rw h) (ap (applyOf s (getD l u 0)) (sym e))
 
   module _ (w : sameStep (s .step) Byte ≡ true) (more : s .byte + 1 < v .size) where
     at-byte : s .step ≡ Byte
     at-byte = is-eq (s .step) Byte (rw w tt)
 
     next : (u′ a : ℕ) →
-        movedBy s (quickly u′ (s .byte + 1) Wait) ≡ applyOf (counted v s) a (effectAt c d v (counted v s) a Byte)
+        movedBy s (quickly u′ (s .byte + 1) (min (s .out + 1) (v .most)) Wait) ≡ applyOf (counted v s) a (effectAt c d v (counted v s) a Byte)
     next u′ a =
         let e : s .byte + 1 ≡ min (s .byte + 1) (v .size + 1) = omega arith in
-        ap (λ (j : ℕ). movedBy s (quickly u′ j Wait)) e ∙ ap (applyOf (counted v s) a) (sym (moved c v s a d more))
+        ap (λ (j : ℕ). movedBy s (quickly u′ j (min (s .out + 1) (v .most)) Wait)) e ∙ ap (applyOf (counted v s) a) (sym (moved c v s a d more))
 
     pub taken : ltb u (length l) ≡ true → v .reads ≡ true →
-        Turns (offsetOf Rxdr) (getD l u 0) (u + 1) (s .byte + 1) Wait (set b (v .start + s .byte) (byteOf (getD l u 0)))
-    taken h r = turns _ _ (u + 1) (getD l u 0) _ _ Byte _ at-byte (rw (r, h)) (next (u + 1) (getD l u 0))
+        Turns (offsetOf Rxdr) (getD l u 0) (u + 1) (s .byte + 1) (min (s .out + 1) (v .most)) Wait (set b (v .start + s .byte) (byteOf (getD l u 0)))
+    taken h r = turns _ _ (u + 1) (getD l u 0) _ _ _ Byte _ at-byte (rw (r, h)) (next (u + 1) (getD l u 0))
 
-    pub put : v .reads ≡ false → Turns (offsetOf Txdr + 0x100) (byteOut v b s) u (s .byte + 1) Wait b
-    put r = turns _ _ u 0 _ _ Byte _ at-byte (rw r) (next u 0)
+    pub put : v .reads ≡ false → Turns (offsetOf Txdr + 0x100) (byteOut v b s) u (s .byte + 1) (min (s .out + 1) (v .most)) Wait b
+    put r = turns _ _ u 0 _ _ _ Byte _ at-byte (rw r) (next u 0)

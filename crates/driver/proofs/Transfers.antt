@@ -12,7 +12,7 @@ use Rattle.calls.proofs.Counts.{block-size, block-count}
 use Rattle.calls.proofs.Fits.{block-reads}
 use Rattle.calls.proofs.Logic.{by-test, both, is-true, is-false}
 use Rattle.calls.specs.Calls.{manual, receives, transmits}
-use Rattle.calls.specs.Pieces.{Piece, blocksOf, transferPieces, pieceAt, startFrom, viewAt}
+use Rattle.calls.specs.Pieces.{Piece, blocksOf, transferPieces, pieceAt, startFrom, mostFor, viewAt}
 use Rattle.calls.specs.declared.Call.{Call}
 
 block-start : (w : Bool) (at f n i : ℕ) → n ≤ f → startFrom at (blocksOf w f n) i ≡ at + min (255 * i) n
@@ -100,21 +100,22 @@ module _ (c : Call) (n : ℕ) where
       single-reads (suc j) h = absurd (omega arith)
 
   -- a view is the one at piece i, if its parts are
-  pub view-is : (k i start size : ℕ) (w same reload : Bool) →
+  pub view-is : (k i start size most : ℕ) (w same reload : Bool) →
       k ≡ length (transferPieces c n) → w ≡ receives c →
-      start ≡ startFrom 0 (transferPieces c n) i → size ≡ pieceAt (transferPieces c n) i .size →
+      start ≡ startFrom 0 (transferPieces c n) i → size ≡ pieceAt (transferPieces c n) i .size → most ≡ mostFor c n →
       same ≡ Bool·beq (w && ltb i k) (w && ltb (i + 1) k) → reload ≡ Bool·beq (w && ltb i k) (w && leb i k) →
       record {
         start = start;
         size = size;
+        most = most;
         reads = w && ltb i k;
         last = leb k (i + 1);
         same = same;
         reload = not (eqb i 0) && reload;
         nonempty = ltb 0 k;
-      } ≡ viewAt (transferPieces c n) i
-  view-is k i start size w same reload a b d e f g =
-      rw (g, f, e, d, before-is, b, a, reads-is i, reads-is (i + 1), reads-is (i - 1))
+      } ≡ viewAt (transferPieces c n) (mostFor c n) i
+  view-is k i start size most w same reload a b d e h f g =
+      rw (g, f, h, e, d, before-is, b, a, reads-is i, reads-is (i + 1), reads-is (i - 1))
 
   pub few : n ≤ 65535 → length (transferPieces c n) ≤ 65535
   few h =

@@ -87,14 +87,14 @@ abbrev pub turnLeft : Call → Description → View → SavedCall → List ℕ �
 turnLeft c d v s b l u log at = turnBy c d v s (madeOf c d v s b l u log at)
 
 -- A quick turn: made, or passed on.
-abbrev pub quickly : ℕ → ℕ → Step → Quick
-quickly u j t = record { made = true; used = u; byte = j; step = t }
+abbrev pub quickly : ℕ → ℕ → ℕ → Step → Quick
+quickly u j m t = record { made = true; used = u; byte = j; out = m; step = t }
 
 abbrev pub passed : SavedCall → ℕ → Quick
-passed s u = record { made = false; used = u; byte = s .byte; step = s .step }
+passed s u = record { made = false; used = u; byte = s .byte; out = s .out; step = s .step }
 
 abbrev pub movedBy : SavedCall → Quick → SavedCall
-movedBy s k = savedAt s (k .step) (s .piece) (k .byte) (s .word) (s .outcome) (oneMore (s .accesses))
+movedBy s k = savedAt s (k .step) (s .piece) (k .byte) (k .out) (s .word) (s .outcome) (oneMore (s .accesses))
 
 abbrev pub quickTurned : SavedCall → Quick → Turned
 quickTurned s k = record { going = k .made; report = Full; used = k .used; saved = movedBy s k }

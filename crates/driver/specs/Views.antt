@@ -4,8 +4,8 @@ use mathlib.Core.Bool.{Bool, cond, not, _&&_, _||_, Bool·beq}
 use mathlib.Core.List.{List, [], _∷_}
 use lib.Dec.{eqb, ltb, leb}
 use lib.ListN.{length, getD}
-use Rattle.calls.specs.Calls.{Request, callNumber, transaction}
-use Rattle.calls.specs.Pieces.{Piece, pieceOf, piecesFor, viewAt, byteThere}
+use Rattle.calls.specs.Calls.{Request, callNumber, transaction, manualWrite}
+use Rattle.calls.specs.Pieces.{Piece, pieceOf, piecesFor, mostFor, viewAt, byteThere}
 use Rattle.calls.specs.Refusals.{lengthOf, takes}
 use Rattle.calls.specs.Steps.{sameStep}
 use Rattle.calls.specs.declared.Call.{Call}
@@ -46,6 +46,7 @@ viewFrom ops t =
     record {
       start = t .start;
       size = min 255 (opAt ops (t .operation) .size - t .at);
+      most = 0;
       reads = opAt ops (t .operation) .reads;
       last = not (goesOn ops (t .operation) (t .at)) && leb (length ops) (t .operation + 1);
       same = goesOn ops (t .operation) (t .at) || Bool·beq (opAt ops (t .operation) .reads) (opAt ops (t .operation + 1) .reads);
@@ -68,18 +69,20 @@ positionAfter ops p =
 abbrev pub cursorAt : Call → List ℕ → ℕ → ℕ → Cursor
 cursorAt c ops n i =
     record {
-      view = viewAt (piecesFor c ops n) i;
+      view = viewAt (piecesFor c ops n) (mostFor c n) i;
       operation = cond (transaction c) (positionOf ops i .operation) 0;
       at = cond (transaction c) (positionOf ops i .at) 0;
     }
 
--- ---- Row 13 in two steps: a step of this call, then a piece that is there and a byte number that a run reaches in it
+-- ---- Row 13 in two steps: a step of this call, then a piece that is there, a byte number that a run reaches in it, and a number of bytes
+-- put out that the call counts to
 abbrev pub belongs : Request → SavedCall → Bool
 belongs q s =
     eqb (s .call) (callNumber (q .call)) && (sameStep (s .step) Ended || (takes q (s .step) && leb (s .piece) 65535))
 
 abbrev pub atByte : Call → View → SavedCall → Bool
-atByte c v s = leb (s .byte) (v .size + 1) && (not (sameStep (s .step) Byte) || byteThere c v s)
+atByte c v s =
+    leb (s .byte) (v .size + 1) && ((not (sameStep (s .step) Byte) || byteThere c v s) && (not (manualWrite c) || leb (s .out) (v .most)))
 
 abbrev pub standsIn : Call → List ℕ → ℕ → SavedCall → Bool
-standsIn c ops n s = ltb (s .piece) (max 1 (length (piecesFor c ops n))) && atByte c (viewAt (piecesFor c ops n) (s .piece)) s
+standsIn c ops n s = ltb (s .piece) (max 1 (length (piecesFor c ops n))) && atByte c (viewAt (piecesFor c ops n) (mostFor c n) (s .piece)) s

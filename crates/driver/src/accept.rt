@@ -23,6 +23,7 @@ use kinds::call::is_auto_receiver;
 use kinds::call::is_call;
 use kinds::call::is_eventful;
 use kinds::call::is_manual;
+use kinds::call::is_manual_write;
 use kinds::call::is_transaction;
 use kinds::call::is_transmitter;
 use kinds::call::moves_bytes;
@@ -186,13 +187,16 @@ pub fn belongs(c: Call, d: Description, ops: &[u32], n: u32, s: SavedCall) -> bo
     takes(c, d, has_pieces(c, ops, n), t) & (s.piece <= 65535)
 }
 
-// The byte number is one that a run reaches, and BYTE has a byte to move, in the piece that v is of.
+// The byte number is one that a run reaches, BYTE has a byte to move, and no more bytes are put out than the call counts, in the piece
+// that v is of.
 fn at_byte(c: Call, v: View, s: SavedCall) -> bool
     requires { ⌜ v .size ≤ 65535 ⌝ }
     ensures { λ r. ⌜ r ≡ atByte c v s ⌝ }
 {
     let t = s.step;
-    (s.byte <= v.size + 1) & (!is_byte(t) | byte_there(c, s.byte, v.size, v.last))
+    (s.byte <= v.size + 1)
+        & ((!is_byte(t) | byte_there(c, s.byte, v.size, v.last))
+            & (!is_manual_write(c) | (s.out <= v.most)))
 }
 
 // The piece is there, and the byte is right in it; p is the cursor at that piece.

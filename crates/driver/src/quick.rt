@@ -1,5 +1,6 @@
 // Quick turns: those of WAIT and BYTE that make up most of a transfer, made without a look at the tables. Whatever the call
-// is, each is its general turn, and changes no more of the saved call than the byte, the step and the count of accesses.
+// is, each is its general turn, and changes no more of the saved call than the byte, the bytes put out, the step and the count of
+// accesses.
 ghost use mathlib.Core.Path.{_≡_};
 ghost use mathlib.Core.Bool.{true, false, cond, _&&_};
 ghost use mathlib.Core.List.{List};
@@ -23,16 +24,18 @@ pub struct Quick {
     pub made: bool,
     pub used: usize,
     pub byte: u32,
+    pub out: u32,
     pub step: Step,
 }
 
-fn made(used: usize, byte: u32, step: Step) -> Quick
-    ensures { λ r. ⌜ r ≡ quickly used byte step ⌝ }
+fn made(used: usize, byte: u32, out: u32, step: Step) -> Quick
+    ensures { λ r. ⌜ r ≡ quickly used byte out step ⌝ }
 {
     Quick {
         made: true,
         used,
         byte,
+        out,
         step,
     }
 }
@@ -46,6 +49,7 @@ fn passes(s: SavedCall, used: usize) -> Quick
         made: false,
         used,
         byte: s.byte,
+        out: s.out,
         step,
     }
 }
@@ -57,6 +61,7 @@ pub fn moved(s: SavedCall, k: Quick) -> SavedCall
     let step = k.step;
     SavedCall {
         byte: k.byte,
+        out: k.out,
         accesses: steps::one_more(s.accesses),
         step,
         ..s
@@ -88,11 +93,11 @@ fn wait(v: View, s: SavedCall, answers: &[u32], used: usize, log: &mut [u32], at
         let flags = fields::get(a, 1, 9);
         if flags == 0 {
             run::note(log, at, Register::Isr.offset(), a);
-            return made(used + 1, s.byte, Step::Wait);
+            return made(used + 1, s.byte, s.out, Step::Wait);
         }
         if is_ready(v, s, flags) {
             run::note(log, at, Register::Isr.offset(), a);
-            return made(used + 1, s.byte, Step::Byte);
+            return made(used + 1, s.byte, s.out, Step::Byte);
         }
     }
     passes(s, used)
@@ -114,7 +119,12 @@ fn take(
         let a = answers[used];
         run::note(log, at, Register::Rxdr.offset(), a);
         run::keep(buffer, access::place(v, s), a);
-        return made(used + 1, s.byte + 1, Step::Wait);
+        return made(
+            used + 1,
+            s.byte + 1,
+            steps::held_out(s.out, v.most),
+            Step::Wait,
+        );
     }
     passes(s, used)
 }
@@ -125,7 +135,7 @@ fn put(v: View, s: SavedCall, buffer: &[u8], used: usize, log: &mut [u32], at: u
 {
     let value = access::byte_out(v, buffer, s);
     run::note(log, at, run::write_code(Register::Txdr), value);
-    made(used, s.byte + 1, Step::Wait)
+    made(used, s.byte + 1, steps::held_out(s.out, v.most), Step::Wait)
 }
 
 // Another byte of the piece must follow. The place is looked at once, here.

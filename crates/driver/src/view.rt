@@ -6,13 +6,14 @@ ghost use Prim.Native.Nat.{_+_, _-_, _*_, _/_, _≤_, min, max};
 ghost use lib.Dec.{eqb, ltb};
 ghost use lib.ListN.{length, getD};
 ghost use Rattle.calls.specs.Calls.{receives};
-ghost use Rattle.calls.specs.Pieces.{transferPieces, piecesFor, pieceAt, startFrom, viewAt};
+ghost use Rattle.calls.specs.Pieces.{transferPieces, piecesFor, pieceAt, startFrom, mostFor, viewAt};
 ghost use Rattle.calls.specs.Refusals.{total};
 ghost use Rattle.calls.proofs.Fit.{Fit};
 ghost use Rattle.driver.specs.Views.{opAt, positionOf, positionAfter, viewFrom, cursorBy, cursorAt};
 use calls::Call;
 use calls::View;
 use kinds::call::is_manual;
+use kinds::call::is_manual_write;
 use kinds::call::is_receiver;
 use kinds::call::is_transaction;
 use kinds::call::moves_bytes;
@@ -127,6 +128,7 @@ fn list_view(ops: &[u32], position: Position) -> View
     View {
         start: position.start,
         size: at_most_255(length - position.at),
+        most: 0,
         reads,
         last: !more & (ops.len() as u32 <= k + 1),
         same: more | alike(reads, op_reads(ops, k + 1)),
@@ -199,10 +201,21 @@ fn transfer_start(c: Call, n: u32, i: u32) -> u32
     0
 }
 
+// How many bytes a transfer counts as put out, one more than there are: only a manual write does.
+fn transfer_most(c: Call, n: u32) -> u32
+    requires { ⌜ n ≤ 65535 ⌝ }
+    ensures { λ r. ⌜ r ≡ mostFor c n ⌝ }
+{
+    if is_manual_write(c) {
+        return n + 1;
+    }
+    0
+}
+
 // All its pieces go one way; past the end is a write.
 fn transfer_view(c: Call, n: u32, i: u32) -> View
     requires { ⌜ (n ≤ 65535) × (i ≤ 65535) ⌝ }
-    ensures { λ r. ⌜ r ≡ viewAt (transferPieces c n) i ⌝ }
+    ensures { λ r. ⌜ r ≡ viewAt (transferPieces c n) (mostFor c n) i ⌝ }
 {
     let k = transfer_count(c, n);
     let receives = is_receiver(c);
@@ -210,6 +223,7 @@ fn transfer_view(c: Call, n: u32, i: u32) -> View
     View {
         start: transfer_start(c, n, i),
         size: transfer_size(c, n, i),
+        most: transfer_most(c, n),
         reads,
         last: k <= i + 1,
         same: alike(reads, receives & (i + 1 < k)),

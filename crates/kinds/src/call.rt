@@ -4,7 +4,7 @@ ghost use mathlib.Core.Bool.{_&&_, _||_, not};
 ghost use Prim.Native.Nat.{_<_};
 ghost use lib.Dec.{leb};
 ghost use Rattle.calls.specs.Refusals.{lookupOf};
-ghost use Rattle.calls.specs.Calls.{byAck, callNumber, isCall, isKind, transaction, manual, receives, transmits, eventful, isConfigured, isSecondary, hasSecondary};
+ghost use Rattle.calls.specs.Calls.{byAck, callNumber, isCall, isKind, transaction, manual, manualWrite, receives, transmits, eventful, isConfigured, isSecondary, hasSecondary};
 ghost use Rattle.calls.specs.declared.Call.the-variants.{WaitForEvent, WaitForStop};
 use calls::Ack;
 use calls::Call;
@@ -211,6 +211,13 @@ pub fn is_auto_receiver(c: Call) -> bool
     ensures { λ r. ⌜ r ≡ (receives c && not (manual c)) ⌝ }
 {
     is_receiver(c) & !is_manual(c)
+}
+
+// A manual write counts the bytes that it puts out.
+pub fn is_manual_write(c: Call) -> bool
+    ensures { λ r. ⌜ r ≡ manualWrite c ⌝ }
+{
+    is_manual(c) & is_transmitter(c)
 }
 
 pub fn has_configuration(config: Configuration) -> bool

@@ -13,6 +13,7 @@ pub fn fresh(n: u32, step: Step) -> SavedCall
         call: n,
         piece: 0,
         byte: 0,
+        out: 0,
         word: 0,
         accesses: 0,
         outcome: Outcome::Done(0),

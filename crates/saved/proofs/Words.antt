@@ -21,9 +21,9 @@ use Rattle.calls.proofs.Every.{every}
 use Rattle.calls.proofs.Fit.{Fit, accepted-fit}
 use Rattle.calls.proofs.Logic.{by-test, both}
 use Rattle.calls.proofs.Views.{notedIn, thenIn, after-noted}
-use Rattle.calls.specs.Calls.{Request, callNumber, transaction, manual, receives, transmits}
+use Rattle.calls.specs.Calls.{Request, callNumber, transaction, manual, receives, transmits, manualWrite}
 use Rattle.calls.specs.Outcomes.{outcomeValue, readdressed, isEventRead}
-use Rattle.calls.specs.Pieces.{Piece, pieceAt, blocksOf, piecesFor, piecesOf, viewOf}
+use Rattle.calls.specs.Pieces.{Piece, pieceAt, blocksOf, piecesFor, piecesOf, mostFor, mostOf, viewOf}
 use Rattle.calls.specs.Refusals.{requestOf, checkOf, accepts}
 use Rattle.calls.specs.Run.{byteOf, turnOf, advanceFrom}
 use Rattle.calls.specs.Steps.{accessAt, accessOf, afterOf, applyOf, awaited, beginOf, countOf, sameStep, ownOr, noted, effectAt, waitAt}
@@ -65,8 +65,9 @@ no-word = lit< tt
 one-word : 1 < word
 one-word = lit< tt
 
--- ---- the pieces of an accepted call are few, and none is large
-pub record Small (ps : List Piece) : Type 0 where
+-- ---- the pieces of an accepted call are few, and none is large; nor does it count many bytes as put out
+pub record Small (most : ℕ) (ps : List Piece) : Type 0 where
+  pub most-small : most ≤ 65536
   pub few : length ps ≤ 65535
   pub size : (i : ℕ) → pieceAt ps i .size ≤ 65535
 
@@ -85,20 +86,29 @@ small-transfer : (n : ℕ) (w : Bool) (i : ℕ) → n ≤ 65535 → pieceAt (rec
 small-transfer n w zero h = h
 small-transfer n w (suc i) h = omega arith
 
-small-pieces : (c : Call) (ops : List ℕ) (n : ℕ) → Fit c ops n → Small (piecesFor c ops n)
+small-pieces : (c : Call) (ops : List ℕ) (n : ℕ) → Fit c ops n → Small (mostFor c n) (piecesFor c ops n)
 unfolding piecesFor
 small-pieces c ops n f =
-    by-test Small (transaction c)
-    (λ t. record { few = omega (arith, f .few t, f .sum t, f .size, list-few ops); size = λ i. omega (arith, list-short ops i) })
+    by-test P (transaction c)
+    (λ t. record { most-small = most; few = omega (arith, f .few t, f .sum t, f .size, list-few ops); size = λ i. omega (arith, list-short ops i) })
     (λ _.
-    by-test Small (receives c || transmits c)
+    by-test P (receives c || transmits c)
     (λ _.
-    by-test Small (manual c)
-    (λ _. record { few = omega (arith, f .size, few-blocks (receives c) n n); size = small-block (receives c) n n })
-    (λ _. record { few = omega arith; size = λ i. small-transfer n (receives c) i (f .size) }))
-    (λ _. record { few = omega arith; size = λ i. omega arith }))
+    by-test P (manual c)
+    (λ _. record { most-small = most; few = omega (arith, f .size, few-blocks (receives c) n n); size = small-block (receives c) n n })
+    (λ _. record { most-small = most; few = omega arith; size = λ i. small-transfer n (receives c) i (f .size) }))
+    (λ _. record { most-small = most; few = omega arith; size = λ i. omega arith }))
+  where
+    P : List Piece → Type 0
+    P ps = Small (mostFor c n) ps
 
-pub accepted-small : (c : Call) (d : Description) (ops : List ℕ) (n : ℕ) → checkOf d ops n ≡ Accepted c → Small (piecesOf (requestOf c d ops n))
+    most : mostFor c n ≤ 65536
+    most = by-test (λ (m : ℕ). m ≤ 65536) (manualWrite c) (λ _. omega (arith, f .size)) (λ _. omega arith)
+
+abbrev pub SmallFor : Request → Type 0
+SmallFor q = Small (mostOf q) (piecesOf q)
+
+pub accepted-small : (c : Call) (d : Description) (ops : List ℕ) (n : ℕ) → checkOf d ops n ≡ Accepted c → SmallFor (requestOf c d ops n)
 accepted-small c d ops n e = small-pieces c ops n (accepted-fit c d ops n e)
 
 -- ---- the value of the outcome that an answer leads to
@@ -268,6 +278,7 @@ call-below q s h =
 
 -- the numbers that row 13 does not bound: what a step notes first, BYTE its byte and ADDRESS the address, keeps them words
 record Others (s : SavedCall) : Type 0 where
+  out-below : s .out < word
   word-below : s .word < word
   accesses-below : s .accesses < word
   value-below : outcomeValue (s .outcome) < word
@@ -277,8 +288,8 @@ found-below o a old =
     let h = one-of (flagOf a OAR1-OA1MODE) (getOf a OAR1-OA1) (outcomeValue o) (omega (arith, get-lt a OAR1-OA1)) old in
     by-test (λ (x : Outcome). outcomeValue x < word) (isEventRead o) (λ _. h) (λ _. h)
 
-notes : (v : View) (s : SavedCall) (a : ℕ) (t : Step) → OfWords s → Others (noted v s a t)
-notes v s a t h = by-test Others (sameStep t Byte) (λ _. search) (λ _. by-test Others (sameStep t Address) (λ _. search found-below) (λ _. search))
+notes : (v : View) (s : SavedCall) (a : ℕ) (t : Step) → v .most ≤ 65536 → OfWords s → Others (noted v s a t)
+notes v s a t m h = by-test Others (sameStep t Byte) (λ _. search arith) (λ _. by-test Others (sameStep t Address) (λ _. search found-below) (λ _. search))
 
 -- and so does what it leads to
 applied : (s : SavedCall) (a : ℕ) (n : Effect) → Others s → a < word → Valued n → Others (applyOf s a n)
@@ -290,22 +301,23 @@ applied s a (Enters t) m g f = search arith
 applied s a (Fails o) m g f = search arith
 applied s a (Ends o) m g f = search arith
 
-count-below : (c : Call) (s : SavedCall) → s .piece ≤ 65535 → s .byte ≤ 65536 → countOf c s < word
-count-below c s h g =
-    let k : cond (receives c) (s .byte) (s .byte - 1) ≤ 65536 =
-    by-test (λ (x : ℕ). x ≤ 65536) (receives c) (λ _. g) (λ _. omega arith) in
-    omega arith
+count-below : (c : Call) (s : SavedCall) → s .piece ≤ 65535 → s .byte ≤ 65536 → s .out < word → countOf c s < word
+count-below c s h g k =
+    by-test P (receives c) (λ _. omega arith) (λ _. by-test (λ (x : ℕ). x - 1 < word) (manual c) (λ _. omega arith) (λ _. omega arith))
+  where
+    P : ℕ → Type 0
+    P x = x < word
 
-module _ (q : Request) (small : Small (piecesOf q)) where
+module _ (q : Request) (small : SmallFor q) where
   words-after : (s : SavedCall) (a : ℕ) → T (accepts q s) → T (not (sameStep (s .step) Ended)) → OfWords s → a < word → OfWords (afterOf q s a)
   words-after s a h n w g =
       let k = known q s h n in
       let s′ : SavedCall = notedIn q s a in
       let m = notes-well q s a (s .step) k in
-      let m′ = notes (viewOf q s) s a (s .step) w in
+      let m′ = notes (viewOf q s) s a (s .step) (small .most-small) w in
       let k′ = known-after q s a n k in
       let f = led-to (q .call) (q .words) (viewOf q s′) s′ a (m′ .value-below)
-      (count-below (q .call) s′ (omega (arith, m .piece, small .few)) (omega (arith, m .byte, small .size (s′ .piece)))) (s .step) in
+      (count-below (q .call) s′ (omega (arith, m .piece, small .few)) (omega (arith, m .byte, small .size (s′ .piece))) (m′ .out-below)) (s .step) in
       let H : Others (afterOf q s a) = rw (after-noted q s a) (applied s′ a (thenIn q s a) m′ g f) in
       search (arith, call-below q (afterOf q s a) (accepted-after q s a h), small .few, small .size (afterOf q s a .piece))
 
@@ -331,7 +343,7 @@ set-below [] i x h g = tt
 set-below (y ∷ b) zero x h g = (g, h .1)
 set-below (y ∷ b) (suc i) x h g = (h .0, set-below b i x (h .1) g)
 
-module _ (q : Request) (small : Small (piecesOf q)) where
+module _ (q : Request) (small : SmallFor q) where
   goes-on : (s : SavedCall) (b : List ℕ) (a : ℕ) (b′ : List ℕ) → InRange q s b → T (made (accessOf q b s)) → a < word → Below 256 b′ →
       InRange q (afterOf q s a) b′
   goes-on s b a b′ i h g k =

@@ -15,6 +15,7 @@ pub record OfWords (s : SavedCall) : Type 0 where
   pub call : s .call < 4294967296
   pub piece : s .piece < 4294967296
   pub byte : s .byte < 4294967296
+  pub out : s .out < 4294967296
   pub word : s .word < 4294967296
   pub accesses : s .accesses < 4294967296
   pub value : outcomeValue (s .outcome) < 4294967296

@@ -62,6 +62,9 @@ valuePlace = outcomePlace + 1
 abbrev pub stepPlace : ℕ
 stepPlace = valuePlace + 1
 
+abbrev pub outPlace : ℕ
+outPlace = stepPlace + 1
+
 abbrev pub savedWords : SavedCall → List ℕ
 savedWords s =
     s .call
@@ -72,6 +75,7 @@ savedWords s =
     ∷ outcomeNumber (s .outcome)
     ∷ outcomeValue (s .outcome)
     ∷ stepNumber (s .step)
+    ∷ s .out
     ∷ []
 
 -- how many they are, and their length in bytes
@@ -113,6 +117,7 @@ savedAs bytes t o =
       call = wordAt bytes callPlace;
       piece = wordAt bytes piecePlace;
       byte = wordAt bytes bytePlace;
+      out = wordAt bytes outPlace;
       word = wordAt bytes wordPlace;
       accesses = wordAt bytes accessesPlace;
       outcome = o;

@@ -28,7 +28,9 @@ const VALUE: usize = OUTCOME + 1;
 
 const STEP: usize = VALUE + 1;
 
-pub const LENGTH: usize = 4 * (STEP + 1);
+const OUT: usize = STEP + 1;
+
+pub const LENGTH: usize = 4 * (OUT + 1);
 
 fn step_of(bytes: &[u8]) -> FoundStep
     ensures { λ r. ⌜ r ≡ stepOf (now (bytes .entry)) ⌝ }
@@ -49,6 +51,7 @@ fn read_as(bytes: &[u8], step: Step, outcome: Outcome) -> SavedCall
         call: words::get(bytes, CALL),
         piece: words::get(bytes, PIECE),
         byte: words::get(bytes, BYTE),
+        out: words::get(bytes, OUT),
         word: words::get(bytes, WORD),
         accesses: words::get(bytes, ACCESSES),
         outcome,
@@ -94,6 +97,7 @@ pub fn write(s: SavedCall, bytes: &mut [u8])
             kinds::outcome::number(outcome),
             kinds::outcome::value(outcome),
             step::step_number(step),
+            s.out,
         ];
         words::encode(&all, bytes);
     }

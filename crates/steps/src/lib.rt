@@ -9,7 +9,7 @@ ghost use Rattle.registers.specs.Places.{ISR-STOPF, ISR-ADDR};
 ghost use Rattle.calls.specs.Calls.{isCall, transaction, transmits};
 ghost use Rattle.calls.specs.Outcomes.{isDone, readdressed};
 ghost use Rattle.calls.specs.Pieces.{byteThere};
-ghost use Rattle.calls.specs.Steps.{errorOr, nackOr, failing, failOf, countOf, transferOver, notAcknowledged, entryStep, transferOf, eventOf, stopEvent, addressFound, tenBitHeader, findAddress, clearStep, addressEvent, eventIn, awaited, stopOr, goesIf, nextIf, waitAt, byteMoved, ownThen, writtenAt, effectAt, oneMore, applyOf, sameStep, counted, ownOr, found, noted, afterIn, startAt, beginAt};
+ghost use Rattle.calls.specs.Steps.{errorOr, nackOr, failing, failOf, bytesPut, countOf, transferOver, notAcknowledged, entryStep, transferOf, eventOf, stopEvent, addressFound, tenBitHeader, findAddress, clearStep, addressEvent, eventIn, awaited, stopOr, goesIf, nextIf, waitAt, byteMoved, ownThen, writtenAt, effectAt, oneMore, applyOf, sameStep, counted, ownOr, found, noted, afterIn, startAt, beginAt};
 ghost use Rattle.calls.specs.declared.Step.the-variants.{Ended, StartControl, Wait, Byte, Address};
 ghost use Rattle.calls.specs.declared.Effect.the-variants.{Goes};
 ghost use Rattle.calls.specs.declared.Call.the-variants.{New, TargetNew, EnableTargetEvent, DisableTargetEvent, Reset};
@@ -87,7 +87,17 @@ fn less_one(n: u32) -> u32
     n - 1
 }
 
-// Earlier blocks are whole. Of the last block of a write one byte less counts than was put out.
+// A manual write carries how many bytes it has put out; an automatic one is one piece.
+fn bytes_put(c: Call, s: SavedCall) -> u32
+    ensures { λ r. ⌜ r ≡ bytesPut c s ⌝ }
+{
+    if call::is_manual(c) {
+        return s.out;
+    }
+    s.byte
+}
+
+// Of a read earlier blocks are whole. Of a write one byte less counts than was put out.
 fn count(c: Call, s: SavedCall) -> u32
     requires { ⌜ Small s ⌝ }
     ensures { λ r. ⌜ r ≡ countOf c s ⌝ }
@@ -95,7 +105,7 @@ fn count(c: Call, s: SavedCall) -> u32
     if call::is_receiver(c) {
         return 255 * s.piece + s.byte;
     }
-    255 * s.piece + less_one(s.byte)
+    less_one(bytes_put(c, s))
 }
 
 // An automatic read sets NACK at its end.
@@ -544,6 +554,7 @@ fn apply(s: SavedCall, a: u32, t: Effect) -> SavedCall
         Effect::Enters(to) => SavedCall {
             piece: 0,
             byte: 0,
+            out: 0,
             accesses: n,
             outcome: Outcome::Done(0),
             step: to,
@@ -599,12 +610,23 @@ fn held_byte(n: u32, size: u32) -> u32
     size + 1
 }
 
+// One more byte put out, held at the call's most, which is 0 where none are counted.
+pub fn held_out(n: u32, most: u32) -> u32
+    ensures { λ r. ⌜ r ≡ min (n + 1) most ⌝ }
+{
+    if n < most {
+        return n + 1;
+    }
+    most
+}
+
 fn counted_at(v: View, s: SavedCall) -> SavedCall
     requires { ⌜ v .size ≤ 65535 ⌝ }
     ensures { λ r. ⌜ r ≡ counted v s ⌝ }
 {
     let n = held_byte(s.byte, v.size);
-    SavedCall { byte: n, ..s }
+    let out = held_out(s.out, v.most);
+    SavedCall { byte: n, out, ..s }
 }
 
 fn readdress(o: Outcome, n: u32) -> Outcome

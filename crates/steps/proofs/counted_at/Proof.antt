@@ -8,4 +8,5 @@ counted-at-spec =
     tie.close
     (tie.spec
     (λ c κs. search needs)
-    (λ c. rw (c .held-byte .ensures)))
+    (λ c κs. search needs)
+    (λ c. rw (c .before .held-byte .ensures, c .held-out .ensures)))

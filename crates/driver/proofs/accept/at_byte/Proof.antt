@@ -10,4 +10,7 @@ at-byte-spec =
     (λ c. search needs)
     (λ c κs. search needs)
     (λ c κs. search needs)
-    (λ c. rw (c .before .is-byte .ensures, c .byte-there .ensures)))
+    (λ c κs. search needs)
+    (λ c.
+    let m = c .before .before in
+    rw (m .before .before .is-byte .ensures, m .before .byte-there .ensures, m .is-manual-write .ensures)))

@@ -13,9 +13,10 @@ put-spec =
     (λ c κs. search needs)
     (λ c. search needs)
     (λ c κs. search needs)
+    (λ c κs. search needs)
     (λ c. search needs)
     (λ c l q d.
-    let a = c .before .before .before .before .before .before .before .before .before .before .args in
-    let p = c .before .before .before .before .before .before .before .before .before .before .pre in
-    rw (c .made .ensures, c .before .before .before .before .note .ensures, c .before .before .before .before .before .write-code .ensures, c .before .before .before .before .before .before .before .byte-out .ensures)
+    let a = c .before .before .before .before .before .before .before .before .before .before .before .args in
+    let p = c .before .before .before .before .before .before .before .before .before .before .before .pre in
+    rw (c .made .ensures, c .before .held-out .ensures, c .before .before .before .before .before .note .ensures, c .before .before .before .before .before .before .write-code .ensures, c .before .before .before .before .before .before .before .before .byte-out .ensures)
     (put q d (a .v) (a .s) (a .buffer .now) l (a .used) (a .log .now) (a .at) (p .1) (p .2) (p .3))))
