@@ -270,12 +270,19 @@ static void time_and_pack(void) {
     add_number(timingr);
 }
 
-/* Now and then a call goes on near the end of a piece, where few would come otherwise. */
+/* Now and then a call goes on near the end of a piece or a block, or at the beginning of one, where few would come otherwise. A manual write
+ * also has a number of bytes put out, often the most that it takes or one more, and stands at any step: at its event it would start anew. */
 static void move_on(void) {
-    if (description.call == HUSKERIVORY_CALL_TRANSACTION && buffer_len > 240 && once_in(2)) {
+    int writes = description.call == HUSKERIVORY_CALL_WRITE + HUSKERIVORY_MANUAL_ACK ||
+                 description.call == HUSKERIVORY_CALL_WAIT_FOR_TARGET_WRITE + HUSKERIVORY_MANUAL_ACK;
+    if ((writes || description.call == HUSKERIVORY_CALL_TRANSACTION) && buffer_len > 240 && once_in(2)) {
         uint32_t piece = below(3);
         huskerivory_put_word(saved + 4, piece);
-        huskerivory_put_word(saved + 8, 240 + below(18));
+        huskerivory_put_word(saved + 8, once_in(3) ? 0 : 240 + below(18));
+    }
+    if (writes && once_in(2)) {
+        huskerivory_put_word(saved + 28, below(HUSKERIVORY_STEPS));
+        huskerivory_put_word(saved + 32, once_in(2) ? buffer_len + below(3) : about(buffer_len + 3));
     }
 }
 

@@ -43,11 +43,12 @@ extern "C" {
 
 /* ---- Version and sizes */
 
-/* What this header was written for. */
-#define HUSKERIVORY_ABI 2
+/* What this header was written for. With version 3 a saved call got its ninth word. One that was stored by version 2 has 32 bytes and is
+ * refused as 13, for its length: begin the call anew. Do not fill it up with zeros: a manual write would count too few bytes. */
+#define HUSKERIVORY_ABI 3
 
 #define HUSKERIVORY_DESCRIPTION 64 /* bytes of a description */
-#define HUSKERIVORY_SAVED_CALL 32  /* bytes of a saved call */
+#define HUSKERIVORY_SAVED_CALL 36  /* bytes of a saved call */
 #define HUSKERIVORY_ADVANCED 32    /* bytes of what an advance leaves besides its report */
 #define HUSKERIVORY_LOG_ENTRY 8    /* bytes of a log entry */
 #define HUSKERIVORY_OPERATIONS 64  /* operations of a transaction, at most */
@@ -176,7 +177,7 @@ enum {
 
 /* ---- The saved call */
 
-/* A call between two advances: HUSKERIVORY_SAVED_CALL bytes, eight words. They can be stored and handed back later, by another program too:
+/* A call between two advances: HUSKERIVORY_SAVED_CALL bytes, nine words. They can be stored and handed back later, by another program too:
  *
  *     bytes  0 ..  3   the call's number; 0 after a refused begin, which no advance takes
  *     bytes  4 ..  7   piece: which piece is running, counted through the whole list, or which block of a target's transfer
@@ -186,10 +187,11 @@ enum {
  *     bytes 20 .. 23   outcome: the number (0 .. 9) of what the call ended with or, before its end, of what is on its way
  *     bytes 24 .. 27   the outcome's value: a count for 0, an address for 7 and 8, 0 for the others
  *     bytes 28 .. 31   step: the access that comes next (1 .. 45), 0 at the end
+ *     bytes 32 .. 35   out: the bytes that a manual write (26, 28) has put out, held at the buffer's length + 1; else 0, and not looked at
  *
  * Bytes that are none are refused as 13: another length, an outcome above 9, a value with an outcome that has none, a step above
  * 45; and so is what this call never comes to: another call's number or, before the end, a step that it never takes, a piece
- * that is not there, or a byte number outside the piece. */
+ * that is not there, a byte number outside the piece or, in a manual write, more bytes put out than the buffer's length + 1. */
 
 /* ---- Begin */
 
@@ -221,6 +223,10 @@ uint32_t huskerivory_next(const huskerivory_description *description,
 /* ---- Advance */
 
 /* How an advance came out. 0 to 9 are the call's outcome: it is over, and a further advance says the same again.
+ *
+ * What a target's transfer counts. If bytes come in (9, 11, 25, 27): those that came. If they go out (10, 12, 26, 28), until the controller's
+ * NACK: those put out in the whole call, less one, since the last is taken to be in TXDR still; never below 0, and at most the buffer's
+ * length. The blocks of a manual call count together. Filling zeros are put out too; the zero that flushes TXDR after the NACK is not.
  *
  * The address of 7 and 8 is unshifted: ISR's ADDCODE or, where ADDCODE is 0x78 to 0x7B and the OAR1 that is read then has OA1MODE 1, its
  * OA1, of ten bits. So a board of seven bits at 0x78 is called at 0x78; and on one whose own address has ten bits, a call of a secondary

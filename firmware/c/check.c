@@ -1,8 +1,8 @@
 /* Drives the library from C and holds it to document 01: version and sizes, the layout of the structs, the worked timings, the worked
  * run of its section on the bench, cut in two ways, operations that go in pieces (document 02, R-1), service pages (R-2), a board's own
- * speed bands (R-4), and refusals, which must leave everything as it was. Prints a line for each group of checks; the exit status is 1
- * if one failed. It runs on a core of 32 bits as well: calls are kept in static memory, since their logs are too long for a small stack,
- * and numbers are printed as `unsigned long`, which every printf knows. */
+ * speed bands (R-4), what a target's write counts (R-6), and refusals, which must leave everything as it was. Prints a line for each group
+ * of checks; the exit status is 1 if one failed. It runs on a core of 32 bits as well: calls are kept in static memory, since their logs are
+ * too long for a small stack, and numbers are printed as `unsigned long`, which every printf knows. */
 #include "huskerivory.h"
 
 #include <stddef.h>
@@ -73,7 +73,10 @@ static void run_group(const char *name, void (*body)(void)) {
 
 /* ---- A call with all that is lent to it; its log is that of all its advances, and `used` counts their answers */
 
-enum { PLACES = 530, BLANK = 0xA5 };
+enum { PLACES = 1040, BYTES = 511, BLANK = 0xA5 };
+
+/* Places in a saved call: the accesses, the step and the bytes put out. */
+enum { ACCESSES = 16, STEP = 28, OUT = 32 };
 
 /* Stands where a number is to be written, and is no such number. */
 #define UNWRITTEN UINT32_C(0xA5A5A5A5)
@@ -82,7 +85,7 @@ typedef struct {
     huskerivory_description description;
     uint8_t operations[8];
     size_t operations_len;
-    uint8_t buffer[257];
+    uint8_t buffer[BYTES];
     size_t buffer_len;
     uint8_t saved[HUSKERIVORY_SAVED_CALL];
     uint8_t log[PLACES * HUSKERIVORY_LOG_ENTRY];
@@ -197,8 +200,9 @@ static void check_text(const call *c, advanced last) {
         CHECK(c->log[i] == BLANK);
     }
     CHECK(huskerivory_get_word(c->saved) == 7);
-    CHECK(huskerivory_get_word(c->saved + 16) == 9);
-    CHECK(huskerivory_get_word(c->saved + 28) == 0);
+    CHECK(huskerivory_get_word(c->saved + ACCESSES) == 9);
+    CHECK(huskerivory_get_word(c->saved + STEP) == 0);
+    CHECK(huskerivory_get_word(c->saved + OUT) == 0);
 }
 
 /* Answers what the next access asks for, as firmware does: a read is made, and its word lent to one advance. */
@@ -215,7 +219,7 @@ static advanced answer_once(call *c, size_t places) {
 static void check_abi(void) {
     static const uint32_t expected[HUSKERIVORY_ABI_SIZES] = HUSKERIVORY_ABI_EXPECTED;
     static const uint32_t here[HUSKERIVORY_ABI_SIZES] = {
-        sizeof(huskerivory_description), 32, sizeof(huskerivory_advanced), 8, 64, 65535, HUSKERIVORY_REPORT_FULL + 1, 46};
+        sizeof(huskerivory_description), 36, sizeof(huskerivory_advanced), 8, 64, 65535, HUSKERIVORY_REPORT_FULL + 1, 46};
     uint32_t sizes[HUSKERIVORY_ABI_SIZES];
     for (size_t i = 0; i < HUSKERIVORY_ABI_SIZES; i++) {
         sizes[i] = UNWRITTEN;
@@ -329,7 +333,7 @@ static void check_reserved(void) {
     check_text(&c, a);
 }
 
-/* What the registers answer to a transaction, on a bus that is always ready. */
+/* What the registers answer to a call. */
 typedef struct {
     uint8_t words[4 * PLACES];
     size_t count;
@@ -339,7 +343,26 @@ static void answer(answers *a, uint32_t word) {
     huskerivory_put_word(a->words + 4 * a->count++, word);
 }
 
-/* The answers to one piece: TXE, CR2 without START, then TXIS for each byte or RXNE and the byte, then the flag that ends it. */
+static void answer_all(answers *a, const uint32_t *words, size_t count) {
+    for (size_t i = 0; i < count; i++) {
+        answer(a, words[i]);
+    }
+}
+
+/* Advances with so many answers, and then with so many at a time, until the call has ended or none is left. */
+static advanced advance_by(call *c, const answers *a, size_t first, size_t at_once) {
+    size_t count = first;
+    advanced last;
+    do {
+        size_t left = a->count - c->used;
+        last = advance(c, a->words + 4 * c->used, 4 * (count < left ? count : left), PLACES - c->entries);
+        count = at_once;
+    } while (last.report == HUSKERIVORY_REPORT_WAITING && c->used < a->count);
+    return last;
+}
+
+/* Those to one piece of a transaction, on a bus that is always ready: TXE, CR2 without START, then TXIS for each byte or RXNE and the
+ * byte, then the flag that ends it. */
 static void answer_piece(answers *a, uint32_t reads, size_t bytes, uint32_t end) {
     answer(a, 0x01);
     answer(a, 0);
@@ -567,6 +590,14 @@ static void check_listen(void) {
     }
 }
 
+/* A target's call over so many bytes. */
+static void make_target(call *c, uint32_t number, size_t bytes) {
+    make_worked(c);
+    c->description.call = number;
+    c->buffer_len = bytes;
+    memset(c->buffer, BLANK, bytes);
+}
+
 /* Events of ADDCODE 0x78 and 0x7B: OAR1 is read, and its OA1 is the address if OA1MODE is 1, else ADDCODE is, which the saved call keeps where the
  * call is cut before that read. All answers in one advance, and one in each. */
 static void check_events(void) {
@@ -581,23 +612,83 @@ static void check_events(void) {
         {MANUAL_ACK, {0xF10009, 0, 0, 0x0523}, 4, 7, HUSKERIVORY_REPORT_EVENT_READ, 0x123},
     };
     static call c;
+    static answers a;
     for (size_t i = 0; i < sizeof events / sizeof events[0]; i++) {
+        a.count = 0;
+        answer_all(&a, events[i].answers, events[i].used);
         for (size_t at_once = 1; at_once <= 4; at_once += 3) {
-            advanced a = {HUSKERIVORY_REPORT_WAITING, {0, 0, 0, 0}};
-            make_worked(&c);
-            c.description.call = events[i].call;
+            make_target(&c, events[i].call, 0);
             CHECK(begin(&c) == 0);
-            while (a.report == HUSKERIVORY_REPORT_WAITING && c.used < events[i].used) {
-                uint8_t answers[16];
-                size_t count = 0;
-                for (; count < at_once && c.used + count < events[i].used; count++) {
-                    huskerivory_put_word(answers + 4 * count, events[i].answers[c.used + count]);
-                }
-                a = advance(&c, answers, 4 * count, PLACES - c.entries);
-            }
-            CHECK(a.report == events[i].report && a.answer.value == events[i].value);
+            advanced last = advance_by(&c, &a, at_once, at_once);
+            CHECK(last.report == events[i].report && last.answer.value == events[i].value);
             CHECK(c.used == events[i].used && c.entries == events[i].written);
         }
+    }
+}
+
+/* The calls that carry the number of bytes put out. */
+enum {
+    MANUAL_WRITE = HUSKERIVORY_CALL_WRITE + HUSKERIVORY_MANUAL_ACK,
+    MANUAL_WAIT_AND_WRITE = HUSKERIVORY_CALL_WAIT_FOR_TARGET_WRITE + HUSKERIVORY_MANUAL_ACK
+};
+
+/* A target's writes that end by a NACK: so many bytes are lent, so many blocks are put out whole, and then come the last answers, in the
+ * next block. The count that has to come of them, the bytes put out as they are held, and the accesses of call 26. */
+static const struct {
+    size_t bytes, blocks;
+    uint32_t last[6];
+    size_t last_count;
+    uint32_t value, out;
+    size_t entries;
+} writes[] = {
+    {256, 1, {0x11, 1, 1}, 3, 254, 255, 519},
+    {511, 1, {0x11, 1, 1}, 3, 254, 255, 519},
+    {511, 2, {0x11, 1, 1}, 3, 509, 510, 1031},
+    {1, 0, {2, 2, 0x10, 0, 1}, 5, 1, 2, 11},    /* a filling zero is put out too */
+    {1, 0, {2, 2, 2, 0x10, 1, 1}, 6, 1, 2, 13}, /* no more than the byte is counted */
+    {1, 0, {2, 0x10, 2, 1}, 4, 0, 1, 10},       /* the flush is not put out */
+    {1, 0, {0x10, 1, 1}, 3, 0, 0, 7},
+};
+
+/* One of them, by a call that writes, uncut, cut in two at each answer, and one answer at a time. An automatic one is a single block, for
+ * which CR2 is not read; a call that waits begins with a read event. Only a manual one carries the bytes put out. */
+static void check_write(size_t i, uint32_t number, const uint32_t *event, size_t event_count, size_t event_entries) {
+    static call whole, cut;
+    static answers a;
+    int manual = number >= HUSKERIVORY_MANUAL_ACK;
+    size_t entries = event_entries + writes[i].entries - (manual ? 0 : 2 * (writes[i].blocks + 1) + 1);
+    a.count = 0;
+    answer_all(&a, event, event_count);
+    for (size_t block = 0; block <= writes[i].blocks; block++) {
+        if (manual) {
+            answer(&a, 0);
+        }
+        for (size_t byte = 0; block < writes[i].blocks && byte < 255; byte++) {
+            answer(&a, 2);
+        }
+    }
+    answer_all(&a, writes[i].last, writes[i].last_count);
+    for (size_t first = a.count + 1; first-- > 0;) {
+        make_target(&cut, number, writes[i].bytes);
+        CHECK(begin(&cut) == 0);
+        advanced last = advance_by(&cut, &a, first, first == 0 ? 1 : a.count);
+        CHECK(last.report == HUSKERIVORY_REPORT_DONE && last.answer.value == writes[i].value);
+        if (first == a.count) {
+            CHECK(cut.used == a.count && cut.entries == entries);
+            CHECK(huskerivory_get_word(cut.saved + OUT) == (manual ? writes[i].out : 0));
+            whole = cut;
+        }
+        CHECK(memcmp(&cut, &whole, sizeof cut) == 0);
+    }
+}
+
+static void check_writes(void) {
+    static const uint32_t event[3] = {0xA10009, 0, 0};
+    for (size_t i = 0; i < sizeof writes / sizeof writes[0]; i++) {
+        check_write(i, MANUAL_WRITE, event, 0, 0);
+        check_write(i, MANUAL_WAIT_AND_WRITE, event, 3, 6);
+        check_write(i, HUSKERIVORY_CALL_WRITE, event, 0, 0);
+        check_write(i, HUSKERIVORY_CALL_WAIT_FOR_TARGET_WRITE, event, 1, 2);
     }
 }
 
@@ -646,7 +737,75 @@ static void check_damaged(void) {
     }
     make_half_way(&c);
     check_refused(&c, sizeof c.saved - 1, HUSKERIVORY_REFUSAL_SAVED_CALL);
+    check_refused(&c, 32, HUSKERIVORY_REFUSAL_SAVED_CALL); /* as version 2 stored them */
     check_refused(&c, 0, HUSKERIVORY_REFUSAL_SAVED_CALL);
+}
+
+/* A call over so many bytes that has begun, with another number of bytes put out. */
+static void make_out(call *c, uint32_t number, size_t bytes, uint32_t out) {
+    if (number == HUSKERIVORY_CALL_TRANSACTION) {
+        make_list(c, (uint32_t)bytes, 0);
+    } else {
+        make_target(c, number, bytes);
+    }
+    CHECK(begin(c) == 0);
+    huskerivory_put_word(c->saved + OUT, out);
+}
+
+/* The bytes put out, in saved calls that are made up: before its end a manual write takes up to one more than its buffer has, and after it
+ * any number, as every other call does at any time. */
+static void check_out(void) {
+    static const uint32_t numbers[] = {0, 3, 4, 5, 0x100, 0x10000, 0x10004, 0x80000000, 0xFFFFFFFF};
+    static const uint32_t calls[] = {
+        MANUAL_WRITE,
+        MANUAL_WAIT_AND_WRITE,
+        HUSKERIVORY_CALL_TRANSACTION,
+        HUSKERIVORY_CALL_READ,
+        HUSKERIVORY_CALL_WRITE,
+        HUSKERIVORY_CALL_WAIT_FOR_TARGET_WRITE,
+        HUSKERIVORY_CALL_NACK_TRANSFER,
+        HUSKERIVORY_CALL_WAIT_FOR_EVENT + HUSKERIVORY_MANUAL_ACK,
+        HUSKERIVORY_CALL_READ + HUSKERIVORY_MANUAL_ACK,
+        HUSKERIVORY_CALL_WAIT_FOR_TARGET_READ + HUSKERIVORY_MANUAL_ACK,
+    };
+    static call c;
+    for (size_t i = 0; i < sizeof calls / sizeof calls[0]; i++) {
+        for (size_t j = 0; j < sizeof numbers / sizeof numbers[0]; j++) {
+            make_out(&c, calls[i], 3, numbers[j]);
+            if (numbers[j] > 4 && (calls[i] == MANUAL_WRITE || calls[i] == MANUAL_WAIT_AND_WRITE)) {
+                check_refused(&c, sizeof c.saved, HUSKERIVORY_REFUSAL_SAVED_CALL);
+            } else {
+                CHECK(next(&c).kind != HUSKERIVORY_ACCESS_REFUSED);
+                CHECK(advance(&c, c.operations, 0, 8).report == HUSKERIVORY_REPORT_WAITING);
+            }
+            huskerivory_put_word(c.saved + STEP, 0);
+            CHECK(next(&c).kind == HUSKERIVORY_ACCESS_OVER);
+            CHECK(advance(&c, c.operations, 0, 8).report == HUSKERIVORY_REPORT_DONE);
+        }
+    }
+}
+
+/* A manual write counts from the number that it carries; one that waits for its event starts it at 0 with the transfer. A manual read
+ * carries none. */
+static void check_out_carried(void) {
+    static const uint32_t words[8] = {0xA10009, 0, 0, 0, 2, 0x10, 1, 1}, counts[5] = {0, 1, 2, 3, 3}, in[5] = {0, 4, 0x71, 4, 0x72};
+    static call c;
+    static answers a;
+    for (uint32_t out = 0; out <= 4; out++) {
+        a.count = 0;
+        answer_all(&a, words + 3, 5);
+        make_out(&c, MANUAL_WRITE, 3, out);
+        CHECK(advance_by(&c, &a, 1, 1).answer.value == counts[out]);
+        a.count = 0;
+        answer_all(&a, words, 8);
+        make_out(&c, MANUAL_WAIT_AND_WRITE, 3, out);
+        CHECK(advance_by(&c, &a, 1, 1).answer.value == 0);
+        CHECK(c.used == 8 && huskerivory_get_word(c.saved + OUT) == 1);
+    }
+    a.count = 0;
+    answer_all(&a, in, 5);
+    make_out(&c, HUSKERIVORY_CALL_READ + HUSKERIVORY_MANUAL_ACK, 2, 0);
+    CHECK(advance_by(&c, &a, 1, 1).answer.value == 2 && huskerivory_get_word(c.saved + OUT) == 0);
 }
 
 static int is_filled(const uint8_t *bytes, size_t size, uint8_t with) {
@@ -1067,7 +1226,10 @@ int main(void) {
     run_group("own addresses", check_addresses);
     run_group("events to listen to", check_listen);
     run_group("events at a ten-bit header", check_events);
+    run_group("what a target's write counts, cut at each answer", check_writes);
     run_group("damaged saved calls", check_damaged);
+    run_group("bytes put out, in made-up saved calls", check_out);
+    run_group("bytes put out, as they are carried on", check_out_carried);
     run_group("refused descriptions", check_descriptions);
     run_group("lists, and what is wrong with them", check_lists);
     run_group("the last of the most pieces", check_last_piece);

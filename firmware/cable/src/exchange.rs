@@ -26,7 +26,7 @@ pub const EMPTY: u8 = 0x5A;
 pub enum Direction {
     /// The terminal sends the card, as a transaction of two write operations.
     Send,
-    /// The terminal reads the first half of the card back.
+    /// The terminal reads the first holes of the card back.
     ReadBack,
 }
 
@@ -43,6 +43,8 @@ pub struct Exchange {
     pub direction: Direction,
     pub ack: Ack,
     card: Vec<u8>,
+    /// How many holes are to cross the cable, from the first on.
+    crossing: usize,
     operations: Vec<Operation>,
     /// Places that the scoreboard's buffer has beyond the card.
     spare: usize,
@@ -60,19 +62,34 @@ impl fmt::Display for Exchange {
 }
 
 impl Exchange {
-    /// An exchange of a card with up to 65,535 bytes, of which the strokes on a hole are one.
+    /// An exchange of a card with up to 65,535 bytes, of which the strokes on a hole are one. Read back
+    /// is its first half.
     pub fn new(direction: Direction, ack: Ack, card: &[u8]) -> Self {
         let first = card.len() as u16 / 2;
         let second = card.len() as u16 - first;
+        let (crossing, operations) = match direction {
+            Direction::Send => (
+                card.len(),
+                vec![Operation::write(first), Operation::write(second)],
+            ),
+            Direction::ReadBack => (first.into(), vec![Operation::read(first)]),
+        };
         Exchange {
             direction,
             ack,
             card: card.to_vec(),
-            operations: match direction {
-                Direction::Send => vec![Operation::write(first), Operation::write(second)],
-                Direction::ReadBack => vec![Operation::read(first)],
-            },
+            crossing,
+            operations,
             spare: 0,
+        }
+    }
+
+    /// An exchange in which so many holes of a card are read back, up to all of them.
+    pub fn reading(holes: u16, ack: Ack, card: &[u8]) -> Self {
+        Exchange {
+            crossing: holes.into(),
+            operations: vec![Operation::read(holes)],
+            ..Exchange::new(Direction::ReadBack, ack, card)
         }
     }
 
@@ -84,10 +101,7 @@ impl Exchange {
 
     /// The holes that are to cross the cable.
     pub fn holes(&self) -> &[u8] {
-        match self.direction {
-            Direction::Send => &self.card,
-            Direction::ReadBack => &self.card[..self.card.len() / 2],
-        }
+        &self.card[..self.crossing]
     }
 
     /// What the firmware at this place calls after these answers; nothing once it is finished.

@@ -86,7 +86,7 @@ struct Advanced {
 }
 
 /// The version that this module was written for.
-const ABI: u32 = 2;
+const ABI: u32 = 3;
 
 /// The sizes that it was written for, in the header's order: bytes of a description, of a saved
 /// call, of what an advance leaves and of a log entry; operations and buffer bytes at most; how many
@@ -384,7 +384,7 @@ mod tests {
         let version = unsafe { huskerivory_abi(&mut sizes) };
         assert_eq!((version, sizes), (ABI, SIZES));
         assert_eq!(known(), Ok(()));
-        assert_eq!(SIZES, [64, 32, 32, 8, 64, 65_535, 13, 46]);
+        assert_eq!(SIZES, [64, 36, 32, 8, 64, 65_535, 13, 46]);
     }
 
     /// Bytes that no `Band` makes: a part of a row, and a shape that is neither.

@@ -24,7 +24,8 @@ pub enum TargetEvent {
 /// How a call ended well.
 #[derive(Clone, Copy, Debug, PartialEq, Eq)]
 pub enum Outcome {
-    /// It is done, and a target's transfer counts so many bytes; other calls count 0.
+    /// It is done, and a target's transfer counts so many bytes: those that came in, or those that
+    /// were put out, less one. Other calls count 0.
     Done(u32),
     /// The event that was waited for.
     Event(TargetEvent),

@@ -3,11 +3,14 @@
 use core::fmt;
 
 /// How many words a saved call has: those that its `Debug` form names.
-const WORDS: usize = 8;
+const WORDS: usize = 9;
 
 /// Where a call stands, in bytes that can be stored and handed back to
 /// [`Running::resume`](crate::Running::resume). Any bytes may be tried: those that are no saved
 /// call of the described call are refused as 13.
+///
+/// A library of version 2 left 32 bytes, without the number of bytes put out. There is no way to
+/// take such a call up: it is begun anew.
 #[derive(Clone, Copy, PartialEq, Eq)]
 pub struct SavedCall(pub(crate) [u8; SavedCall::LENGTH]);
 
@@ -48,7 +51,7 @@ impl SavedCall {
 
 impl fmt::Debug for SavedCall {
     fn fmt(&self, f: &mut fmt::Formatter<'_>) -> fmt::Result {
-        let [call, piece, byte, word, accesses, outcome, value, step] = self.words();
+        let [call, piece, byte, word, accesses, outcome, value, step, out] = self.words();
         f.debug_struct("SavedCall")
             .field("call", &call)
             .field("piece", &piece)
@@ -58,6 +61,7 @@ impl fmt::Debug for SavedCall {
             .field("outcome", &outcome)
             .field("value", &value)
             .field("step", &step)
+            .field("out", &out)
             .finish()
     }
 }

@@ -99,7 +99,8 @@ impl<R: Registers, A: AckMode> I2cTarget<R, A> {
     }
 
     /// Puts bytes out after a read event, and zeros after the last, until the controller has
-    /// enough. Says how many were taken, at most all. They are not changed.
+    /// enough. Says how many were taken, at most all: one less than were put out, zeros among them,
+    /// since the last is taken to be in TXDR still. The bytes are not changed.
     pub fn write(&mut self, bytes: &mut [u8]) -> Result<usize, Error> {
         Ok(self.run(Description::write(A::ACK), bytes)?.count())
     }

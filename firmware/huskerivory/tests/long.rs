@@ -2,9 +2,8 @@
 
 mod common;
 
-use common::{controller, Scripted, BOARD};
-use huskerivory::{Address, Description, Operation, Outcome, Running, SavedCall};
-use std::task::Poll;
+use common::{controller, taken_up_anew, Scripted, BOARD};
+use huskerivory::{Address, Description, Operation, Outcome};
 
 const STOPF: u32 = 0x20;
 const TC: u32 = 0x40;
@@ -165,21 +164,17 @@ fn the_most_pieces_taken_up_anew_at_every_poll() {
     let mut registers = Scripted::new(&answers);
     let mut buffer = card.clone();
     let description = Description::transaction(BOARD);
-    let mut saved = Running::begin(description, &operations, &mut buffer)
-        .unwrap()
-        .saved();
     let mut last_piece = 0;
-    let ended = loop {
-        let taken_up = SavedCall::from_bytes(saved.to_bytes());
-        let mut running = Running::resume(description, &operations, &mut buffer, taken_up).unwrap();
-        let poll = running.poll(&mut registers);
-        saved = running.saved();
-        let [_, _, _, _, a, b, c, d, ..] = saved.to_bytes();
-        last_piece = last_piece.max(u32::from_le_bytes([a, b, c, d]));
-        if let Poll::Ready(ended) = poll {
-            break ended;
-        }
-    };
+    let ended = taken_up_anew(
+        &mut registers,
+        description,
+        &operations,
+        &mut buffer,
+        |saved| {
+            let [_, _, _, _, a, b, c, d, ..] = saved.to_bytes();
+            last_piece = last_piece.max(u32::from_le_bytes([a, b, c, d]));
+        },
+    );
     assert_eq!(ended, Ok(Outcome::Done(0)));
     assert_eq!(last_piece, 319);
     let accesses = registers.take();

@@ -114,7 +114,7 @@ fn a_saved_call_is_taken_up() {
     let saved = saved_half_way(&mut buffer);
     assert_eq!(
         format!("{saved:?}"),
-        "SavedCall { call: 7, piece: 0, byte: 0, word: 0, accesses: 2, outcome: 0, value: 0, step: 3 }"
+        "SavedCall { call: 7, piece: 0, byte: 0, word: 0, accesses: 2, outcome: 0, value: 0, step: 3, out: 0 }"
     );
     let words = worked().to_words();
     assert_eq!(words, [7, 0x50, 0, 0, 0, 0, 0, 0, u32::MAX, u32::MAX]);
@@ -153,6 +153,55 @@ fn damaged_bytes_are_refused() {
     let refused = Running::resume(worked(), &WRITE_TWO, &mut buffer, SavedCall::NONE);
     assert_eq!(refused.map(|_| ()), Err(Refusal(13)));
     assert_eq!(buffer, [0x12, 0x34]);
+}
+
+/// A call that has begun, or has ended, with another number of bytes put out, taken up.
+fn with_out(
+    description: Description,
+    operations: &[Operation],
+    ended: bool,
+    out: u32,
+) -> Result<(), Refusal> {
+    let mut buffer = [0x12, 0x34];
+    let begun = Running::begin(description, operations, &mut buffer)?;
+    let mut bytes = begun.saved().to_bytes();
+    if ended {
+        bytes[28..32].fill(0);
+    }
+    bytes[32..].copy_from_slice(&out.to_le_bytes());
+    let saved = SavedCall::from_bytes(bytes);
+    Running::resume(description, operations, &mut buffer, saved).map(|_| ())
+}
+
+/// Document 02, R-6: it is one more than there are bytes, at most, in a manual write that has not
+/// ended. Nowhere else is it looked at.
+#[test]
+fn bytes_put_out_are_bounded_in_a_manual_write() {
+    for description in [
+        Description::write(Ack::Manual),
+        Description::wait_for_target_write(Ack::Manual),
+    ] {
+        for out in [0, 2, 3] {
+            assert_eq!(with_out(description, &[], false, out), Ok(()));
+        }
+        for out in [4, 0x100, 0x1_0003, u32::MAX] {
+            let refused = with_out(description, &[], false, out);
+            assert_eq!(refused, Err(Refusal(13)), "{out} bytes put out");
+            assert_eq!(with_out(description, &[], true, out), Ok(()));
+        }
+    }
+    for out in [3, 4, u32::MAX] {
+        assert_eq!(with_out(worked(), &WRITE_TWO, false, out), Ok(()));
+        for description in [
+            Description::write(Ack::Auto),
+            Description::wait_for_target_write(Ack::Auto),
+            Description::read(Ack::Manual),
+            Description::wait_for_target_read(Ack::Manual),
+            Description::wait_for_event(Ack::Manual),
+        ] {
+            assert_eq!(with_out(description, &[], false, out), Ok(()));
+        }
+    }
 }
 
 #[test]

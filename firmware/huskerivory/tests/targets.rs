@@ -2,14 +2,16 @@
 
 mod common;
 
-use common::{refused, target};
-use huskerivory::{Error, ErrorKind, TargetEvent};
+use common::{refused, taken_up_anew, target, Scripted};
+use huskerivory::{Ack, Description, Error, ErrorKind, Outcome, TargetEvent};
 
 /// ISR with ADDR and TXE: the controller reads from, and writes to, address 0x50.
 const READS: u32 = 0x00A1_0009;
 const WRITES: u32 = 0x00A0_0009;
 /// ISR with STOPF.
 const STOP: u32 = 0x20;
+/// CR1 and CR2 as a manual event reads them next.
+const EVENT: [u32; 2] = [0x1_0001, 0x1FF_8000];
 
 #[test]
 fn events() {
@@ -304,17 +306,66 @@ fn a_manual_write() {
     );
 }
 
+/// Manual writes that end by a NACK: the length of the buffer, the answers, and the count and the
+/// number of accesses that have to come of them. A block begins with a read of CR2.
+fn nacked_writes() -> [(usize, Vec<u32>, usize, usize); 7] {
+    let block = [&[0][..], &[2; 255]].concat();
+    let between = [0, 0x11, 1, 1];
+    [
+        (256, [&block[..], &between].concat(), 254, 519),
+        (511, [&block[..], &between].concat(), 254, 519),
+        (511, [&block[..], &block, &between].concat(), 509, 1_031),
+        // Filling zeros count as put out, the flush does not.
+        (1, vec![0, 2, 2, 0x10, 0, 1], 1, 11),
+        (1, vec![0, 2, 2, 2, 0x10, 1, 1], 1, 13),
+        (1, vec![0, 2, 0x10, 2, 1], 0, 10),
+        (1, vec![0, 0x10, 1, 1], 0, 7),
+    ]
+}
+
+/// Document 02, R-6: all blocks together, less one for the byte that is still in TXDR; blocking, and
+/// taken up from its bytes at every poll.
+#[test]
+fn a_manual_write_counts_over_all_its_blocks() {
+    let called = [&[READS][..], &EVENT].concat();
+    for (length, answers, count, accesses) in nacked_writes() {
+        let mut bytes = vec![0x71; length];
+        let mut i2c = target(&answers).with_manual_ack_control();
+        assert_eq!(i2c.write(&mut bytes), Ok(count));
+        let written = i2c.registers().take();
+        assert_eq!(written.len(), accesses);
+
+        let with_event = [&called[..], &answers].concat();
+        i2c.registers().answer(&with_event);
+        assert_eq!(i2c.wait_for_target_write(&mut bytes), Ok(count));
+        assert_eq!(i2c.registers().take()[6..], written);
+
+        for (description, answers, before) in [
+            (Description::write(Ack::Manual), &answers, 0),
+            (
+                Description::wait_for_target_write(Ack::Manual),
+                &with_event,
+                6,
+            ),
+        ] {
+            let mut registers = Scripted::new(answers);
+            let ended = taken_up_anew(&mut registers, description, &[], &mut bytes, |_| {});
+            assert_eq!(ended, Ok(Outcome::Done(count as u32)));
+            assert_eq!(registers.take()[before..], written);
+        }
+    }
+}
+
 #[test]
 fn waiting_for_a_manual_transfer() {
-    let event = [0x1_0001, 0x1FF_8000];
     let mut answers = vec![WRITES];
-    answers.extend(event);
+    answers.extend(EVENT);
     answers.extend([1, 0x8000, 0x100_8000, 4, 0x71]);
     answers.push(READS);
-    answers.extend(event);
+    answers.extend(EVENT);
     answers.extend([0, 2, 0x10, 1, 1]);
     answers.push(READS);
-    answers.extend(event);
+    answers.extend(EVENT);
     answers.push(STOP);
     let mut i2c = target(&answers).with_manual_ack_control();
     let mut buffer = [0];

@@ -2,10 +2,11 @@
 #![allow(dead_code)]
 
 use huskerivory::{
-    Address, Error, I2c, I2cTarget, Outcome, RawTimingr, Refusal, Registers, TargetConfig,
-    TargetEvent,
+    Address, Description, Error, I2c, I2cTarget, Operation, Outcome, RawTimingr, Refusal,
+    Registers, Running, SavedCall, TargetConfig, TargetEvent,
 };
 use std::collections::VecDeque;
+use std::task::Poll;
 
 #[derive(Debug, Default)]
 pub struct Scripted {
@@ -72,6 +73,28 @@ pub fn target(answers: &[u32]) -> I2cTarget<Scripted> {
     i2c.registers().take();
     i2c.registers().answer(answers);
     i2c
+}
+
+/// A call made to its end, begun and then taken up from its bytes at every poll; `each` is told what
+/// every poll saved.
+pub fn taken_up_anew(
+    registers: &mut Scripted,
+    description: Description,
+    operations: &[Operation],
+    buffer: &mut [u8],
+    mut each: impl FnMut(SavedCall),
+) -> Result<Outcome, Error> {
+    let mut saved = Running::begin(description, operations, buffer)?.saved();
+    loop {
+        let bytes = SavedCall::from_bytes(saved.to_bytes());
+        let mut running = Running::resume(description, operations, buffer, bytes)?;
+        let poll = running.poll(registers);
+        saved = running.saved();
+        each(saved);
+        if let Poll::Ready(ended) = poll {
+            return ended;
+        }
+    }
 }
 
 pub fn refused<T>(number: u32) -> Result<T, Error> {
