@@ -14,6 +14,7 @@ use std::time::{Duration, Instant};
 
 use oracle::Fields;
 
+use crate::calls::known::MANUAL_WRITES;
 use crate::random::Random;
 use crate::rattle::{
     self, saved, Advanced, Left, Next, ENTRY, FULL, NONE_REFUSED, REFUSED, SAVED, STEPS, WAITING,
@@ -334,7 +335,7 @@ fn kept(what: &str, given: &[u8], expected: &[u8]) -> Result<(), String> {
 
 impl Bytes {
     /// The refusal that is certain: of the description, or of bytes that are no saved call of this
-    /// call, or one at a piece that it does not have.
+    /// call, or one at a piece that it does not have or with more bytes put out than it counts.
     fn any_refusal(&self) -> Option<u32> {
         self.refusal().or_else(|| (!self.is_saved()).then_some(13))
     }
@@ -349,8 +350,17 @@ impl Bytes {
             outcome => outcome <= 9 && word(saved::VALUE) == 0,
         };
         let ended = word(saved::STEP) == 0;
-        let there = ended || (word(saved::PIECE) as usize) < self.pieces().max(1);
-        outcome && there && word(saved::STEP) < STEPS && word(saved::CALL) == self.description.call
+        let there = (word(saved::PIECE) as usize) < self.pieces().max(1);
+        let reached = ended || there && self.is_counted(word(saved::OUT));
+        let listed = word(saved::STEP) < STEPS;
+        outcome && reached && listed && word(saved::CALL) == self.description.call
+    }
+
+    /// Whether a call that has not ended may have put so many bytes out: a manual write counts up to
+    /// its buffer's length + 1 (document 02, R-6), and no other call looks at the number.
+    fn is_counted(&self, out: u32) -> bool {
+        let counts = MANUAL_WRITES.contains(&self.description.call);
+        !counts || out as usize <= self.buffer.len() + 1
     }
 
     fn hold_refusal(&self, given: Advanced, after: &Bytes) -> Result<(), String> {
@@ -427,6 +437,10 @@ impl Bytes {
         let outcome = (now(saved::OUTCOME), now(saved::VALUE)) == (given.report, given.value);
         held("the outcome", !over || outcome && now(saved::STEP) == 0)?;
         held("the end", over || now(saved::STEP) != 0)?;
+        held(
+            "the bytes put out",
+            over || self.is_counted(now(saved::OUT)),
+        )?;
         let same = self.buffer.iter().zip(&after.buffer);
         let changed = same.filter(|(before, after)| before != after).count();
         let received = after.codes(given.written).filter(|&code| code == 0x24);

@@ -7,7 +7,7 @@ use crate::answer::{Answer, Refusal};
 use oracle::{Asked, Fields};
 
 /// The bytes of a saved call.
-pub const SAVED: usize = 32;
+pub const SAVED: usize = 36;
 
 /// The bytes of a log entry.
 pub const ENTRY: usize = 8;
@@ -24,7 +24,7 @@ pub const WRITE: u32 = 2;
 pub const NONE_REFUSED: u32 = 3;
 
 /// The version that this program was written for, and its sizes in the header's order.
-const ABI: u32 = 2;
+const ABI: u32 = 3;
 const SIZES: [u32; 8] = [
     size_of::<Description>() as u32,
     SAVED as u32,
@@ -405,6 +405,11 @@ pub fn word(saved: &[u8], number: usize) -> u32 {
     u32::from_le_bytes(bytes.try_into().expect("four bytes"))
 }
 
+/// Makes a word of a saved call another.
+pub fn put(saved: &mut [u8], number: usize, word: u32) {
+    saved[4 * number..4 * number + 4].copy_from_slice(&word.to_le_bytes());
+}
+
 /// The words of a saved call, by their numbers.
 pub mod saved {
     pub const CALL: usize = 0;
@@ -414,6 +419,8 @@ pub mod saved {
     pub const OUTCOME: usize = 5;
     pub const VALUE: usize = 6;
     pub const STEP: usize = 7;
+    /// The bytes that a manual write has put out, held at its buffer's length + 1 (document 02, R-6).
+    pub const OUT: usize = 8;
 }
 
 #[cfg(test)]
@@ -425,7 +432,7 @@ mod tests {
     #[test]
     fn the_library_is_the_one_that_this_was_written_for() {
         assert_eq!(check_library(), Ok(()));
-        assert_eq!(SIZES, [64, 32, 32, 8, 64, 65_535, 13, 46]);
+        assert_eq!(SIZES, [64, 36, 32, 8, 64, 65_535, 13, 46]);
     }
 
     #[test]

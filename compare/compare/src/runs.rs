@@ -1,10 +1,11 @@
 //! `compare runs`: the Rust driver and the Rattle driver, through its C boundary, on the same inputs
 //! in one process, uncut and cut.
 //!
-//! After a fixed sample of calls and the events with a ten-bit header ([`headers`]) come four parts:
-//! long calls ([`long`]), every sequence of answers up to a length ([`walk`]), every state of small
-//! and large calls ([`graph`]), and random calls.
+//! After a fixed sample of calls, the events with a ten-bit header ([`headers`]) and the manual writes
+//! that meet a NACK ([`totals`]) come four parts: long calls ([`long`]), every sequence of answers up to
+//! a length ([`walk`]), every state of small and large calls ([`graph`]), and random calls.
 
+mod carried;
 mod check;
 mod cut;
 mod graph;
@@ -17,6 +18,7 @@ pub mod room;
 mod saved;
 mod show;
 mod shown;
+mod totals;
 mod truth;
 mod walk;
 mod words;
@@ -71,10 +73,19 @@ impl Comparison {
     /// Compares one input, and cuts it if that is asked for.
     fn check(&mut self, input: Input, cuts: bool) -> Result<Ended, Stop> {
         let cuts = cuts.then_some(&mut self.random);
-        let ended = self
-            .checker
-            .check(input, cuts)
-            .map_err(|told| Stop::difference(input, told))?;
+        let checked = self.checker.check(input, cuts);
+        self.count(input, checked)
+    }
+
+    /// Compares one input, cut after each of these numbers of accesses.
+    fn check_at(&mut self, input: Input, ends: &[usize]) -> Result<Ended, Stop> {
+        let checked = self.checker.check_at(input, ends, &mut self.random);
+        self.count(input, checked)
+    }
+
+    /// Counts an input that was compared last, unless it showed a difference.
+    fn count(&mut self, input: Input, checked: Result<Ended, String>) -> Result<Ended, Stop> {
+        let ended = checked.map_err(|told| Stop::difference(input, told))?;
         let call = input.asked.call;
         self.tally
             .add(call, ended.report as usize, ended.value, ended.known);
@@ -113,6 +124,7 @@ impl Comparison {
     fn long(&mut self) -> Result<(), Stop> {
         long::all(self)?;
         saved::all(self)?;
+        carried::all(self)?;
         self.long = true;
         Ok(())
     }
@@ -174,6 +186,7 @@ impl Comparison {
             Limit::Runs(most) => {
                 self.sample()?;
                 headers::all(self)?;
+                totals::all(self)?;
                 self.long()?;
                 self.sequences(SEQUENCES)?;
                 self.states()?;
@@ -183,6 +196,7 @@ impl Comparison {
                 let time = Duration::from_secs(seconds);
                 self.sample()?;
                 headers::all(self)?;
+                totals::all(self)?;
                 self.until(time / 4, Self::long)?;
                 self.until(time / 2, |it| it.sequences(u64::MAX))?;
                 self.until(time * 3 / 4, Self::states)?;

@@ -664,6 +664,12 @@ const MANUAL: [Access; 4] = [
     w(CR2, 0x8000),
 ];
 
+/// The accesses of a manual event by which the controller reads.
+fn manual_read_event() -> Vec<Access> {
+    let status = r(ISR, ADDCODE_50 | DIR | ADDR | TXE);
+    [&[status][..], &MANUAL, &[w(ICR, ADDR)]].concat()
+}
+
 /// Those that follow a write event's address.
 const MANUAL_WRITE: [Access; 4] = [
     r(CR1, 1),
@@ -708,8 +714,16 @@ fn call_25_reads_in_blocks() {
     check_bytes(25, &[], &[], (Done, 0), &[]);
 }
 
-/// A NACK that finds nothing to flush.
+/// A NACK that finds nothing to flush, and one that finds a byte.
 const NACK: [Access; 4] = [r(ISR, NACKF | TXE), w(ICR, NACKF), r(ISR, TXE), r(ISR, TXE)];
+const NACK_AND_FLUSH: [Access; 6] = [
+    r(ISR, NACKF | TXIS),
+    w(ICR, NACKF),
+    r(ISR, TXIS),
+    w(TXDR, 0),
+    r(ISR, 0),
+    w(ISR, 1),
+];
 
 #[test]
 fn call_26_writes_in_blocks_and_fills_the_last() {
@@ -743,9 +757,7 @@ fn call_27_reads_after_a_manual_write_event() {
 
 #[test]
 fn call_28_writes_after_a_manual_read_event() {
-    let mut log = vec![r(ISR, ADDCODE_50 | DIR | ADDR | TXE)];
-    log.extend(MANUAL);
-    log.push(w(ICR, ADDR));
+    let mut log = manual_read_event();
     log.extend([r(CR2, 0), w(CR2, 0x0001_0000), w(ICR, ADDR)]);
     log.extend([r(ISR, TXIS), w(TXDR, 0x12)]);
     log.extend(NACK);
@@ -759,10 +771,7 @@ fn call_28_writes_after_a_manual_read_event() {
 
 #[test]
 fn call_29_completes_an_unfitting_event() {
-    let mut log = vec![r(ISR, ADDCODE_50 | DIR | ADDR | TXE)];
-    log.extend(MANUAL);
-    log.push(w(ICR, ADDR));
-    check_plain(29, &log, (ExpectedWrite, 0));
+    check_plain(29, &manual_read_event(), (ExpectedWrite, 0));
 
     check_plain(29, &[r(ISR, STOPF), w(ICR, STOPF)], (Done, 0));
 }
@@ -771,7 +780,7 @@ fn call_29_completes_an_unfitting_event() {
 fn check_panic(description: Description, length: usize, log: &[Access], kind: PanicKind) {
     let reads = log.iter().filter(|access| is_read(access));
     let answers: Vec<u32> = reads.map(|access| access[1]).collect();
-    let broken = run(&description, &mut vec![0; length], &answers);
+    let broken = run(&description, &mut vec![0x12; length], &answers);
     assert_eq!(broken.log, log);
     match broken.outcome {
         Panicked(panic) => assert_eq!(panic.kind, kind),
@@ -779,21 +788,81 @@ fn check_panic(description: Description, length: usize, log: &[Access], kind: Pa
     }
 }
 
-#[test]
-fn a_nack_before_any_byte_of_a_block_panics() {
-    let manual = |call| Description {
-        call,
-        ..Default::default()
-    };
-    let mut block = vec![r(CR2, 0), w(CR2, 0x00FF_0000), w(ICR, ADDR)];
-    block.extend(NACK);
-    check_panic(manual(26), 256, &block, PanicKind::NackAtOnce);
+/// Runs of both manual writes, 28 after its event, with a buffer of this length and a NACK after so
+/// many bytes, zeros past the buffer's end: with nothing to flush, and with a byte.
+fn nacked(length: usize, bytes: usize) -> Vec<(Description<'static>, Vec<Access>)> {
+    let mut runs = Vec::new();
+    let zeros = [r(ISR, TXIS), w(TXDR, 0)].repeat(bytes.saturating_sub(length));
+    for (call, event) in [(26, Vec::new()), (28, manual_read_event())] {
+        let sent = moved(call, length, bytes.min(length));
+        for nack in [&NACK[..], &NACK_AND_FLUSH] {
+            let description = Description {
+                call,
+                ..Default::default()
+            };
+            let log = [&event[..], &sent, &zeros, nack].concat();
+            runs.push((description, log));
+        }
+    }
+    runs
+}
 
-    let mut log = vec![r(ISR, ADDCODE_50 | DIR | ADDR | TXE)];
-    log.extend(MANUAL);
-    log.push(w(ICR, ADDR));
-    log.extend(block);
-    check_panic(manual(28), 256, &log, PanicKind::NackAtOnce);
+/// Document 02 counts 0, 254 and 509 there.
+#[test]
+fn a_nack_at_byte_0_of_a_block_that_is_not_the_last_panics() {
+    for (length, bytes) in [(256, 0), (511, 255), (766, 255), (766, 510)] {
+        for (description, log) in nacked(length, bytes) {
+            check_panic(description, length, &log, PanicKind::NackAtOnce);
+        }
+    }
+}
+
+/// Document 02 counts one byte less: 254, 509 and 764.
+#[test]
+fn a_nack_at_byte_0_of_a_later_block_that_is_the_last_counts_all_bytes_before() {
+    let first = [256, 257, 510].map(|length| (length, 255));
+    for (length, bytes) in [&first[..], &[(511, 510), (765, 510), (766, 765)]].concat() {
+        for (description, log) in nacked(length, bytes) {
+            let ends = (Done, bytes as u32);
+            check(description, &mut vec![0x12; length], &log, ends);
+        }
+    }
+}
+
+/// At every other byte the driver counts as document 02 does: a byte less than were put out,
+/// at least 0 and at most the buffer's length.
+#[test]
+fn a_nack_at_another_byte_counts_one_less() {
+    for length in [1, 255, 256, 257, 510, 511, 765, 766] {
+        let differs = |bytes: &usize| length > 255 && *bytes < length && bytes.is_multiple_of(255);
+        for bytes in (0..=length + 3).filter(|bytes| !differs(bytes)) {
+            let count = bytes.saturating_sub(1).min(length) as u32;
+            for (description, log) in nacked(length, bytes) {
+                check_whole(description, &mut vec![0x12; length], &log, (Done, count));
+            }
+        }
+    }
+}
+
+#[test]
+fn the_examples_of_r_6() {
+    let write = |length, answers: &[u32]| {
+        let description = Description {
+            call: 26,
+            ..Default::default()
+        };
+        let run = run(&description, &mut vec![0; length], answers);
+        (run.outcome.word(), run.value, run.used, run.log.len())
+    };
+    // In both document 02 counts 254.
+    for status in [TXIS, TXIS | TXE] {
+        let between = [&[0][..], &[status; 255], &[0, 0x11, 1, 1]].concat();
+        assert_eq!(write(256, &between), ("done", 255, 260, 519));
+        assert_eq!(write(511, &between), ("panicked", 0, 260, 519));
+    }
+    // A zero counts as put out, a flush does not.
+    assert_eq!(write(1, &[0, 2, 2, 0x10, 0, 1]), ("done", 1, 6, 11));
+    assert_eq!(write(1, &[0, 2, 0x10, 2, 1]), ("done", 0, 5, 10));
 }
 
 /// Document 02 gives ADDCODE, 120 here, wherever OA1MODE is 0.
@@ -1000,28 +1069,37 @@ fn lists_of_over_65535_bytes_are_transferred() {
     assert!(buffer.iter().all(|&it| it == 0x12));
 }
 
-/// A transfer of a full buffer, in either mode, after its event.
-fn transfer(call: u32, length: usize) -> Vec<Access> {
+/// The accesses of a transfer in either mode, after its event, up to so many of its bytes and into
+/// the next block, if there is one.
+fn moved(call: u32, length: usize, bytes: usize) -> Vec<Access> {
     let reads = matches!(call, 9 | 11 | 25 | 27);
+    let most = if call < 16 { length } else { 255 };
     let mut log = Vec::new();
-    let mut left = length;
-    while left > 0 {
-        let block = if call < 16 { left } else { left.min(255) };
+    for start in (0..length.min(bytes + 1)).step_by(most) {
+        let block = (length - start).min(most);
         if call >= 16 {
             log.extend([r(CR2, 0), w(CR2, (block as u32) << 16)]);
-            log.extend((left == length).then_some(w(ICR, ADDR)));
+            log.extend((start == 0).then_some(w(ICR, ADDR)));
         }
+        let count = block.min(bytes - start);
         log.extend(match reads {
-            true => [r(ISR, RXNE), r(RXDR, 0x71)].repeat(block),
-            false => [r(ISR, TXIS), w(TXDR, 0x12)].repeat(block),
+            true => [r(ISR, RXNE), r(RXDR, 0x71)].repeat(count),
+            false => [r(ISR, TXIS), w(TXDR, 0x12)].repeat(count),
         });
-        left -= block;
     }
-    if !reads {
-        log.extend([r(ISR, TXIS), w(TXDR, 0)]);
-        log.extend(NACK);
-    } else if call < 16 {
-        log.extend([r(CR2, 0), w(CR2, 0x8000)]);
+    log
+}
+
+/// A transfer of a full buffer.
+fn transfer(call: u32, length: usize) -> Vec<Access> {
+    let mut log = moved(call, length, length);
+    match call {
+        10 | 12 | 26 | 28 => {
+            log.extend([r(ISR, TXIS), w(TXDR, 0)]);
+            log.extend(NACK);
+        }
+        9 | 11 => log.extend([r(CR2, 0), w(CR2, 0x8000)]),
+        _ => {}
     }
     log
 }
@@ -1030,17 +1108,14 @@ fn transfer(call: u32, length: usize) -> Vec<Access> {
 fn buffers_of_over_65535_bytes_are_transferred() {
     let length = 65_536;
     for call in [9, 10, 11, 12, 25, 26, 27, 28] {
-        let direction = if matches!(call, 12 | 28) { DIR } else { 0 };
+        let event = ADDCODE_50 | ADDR | TXE;
         let mut log = match call {
-            11 | 12 | 27 | 28 => vec![r(ISR, ADDCODE_50 | direction | ADDR | TXE)],
+            11 => vec![r(ISR, event), w(ICR, ADDR)],
+            12 => vec![r(ISR, event | DIR), w(ICR, ADDR)],
+            27 => [&[r(ISR, event)][..], &MANUAL, &MANUAL_WRITE].concat(),
+            28 => manual_read_event(),
             _ => vec![],
         };
-        match call {
-            11 | 12 => log.push(w(ICR, ADDR)),
-            27 => log.extend([MANUAL, MANUAL_WRITE].concat()),
-            28 => log.extend([&MANUAL[..], &[w(ICR, ADDR)]].concat()),
-            _ => {}
-        }
         log.extend(transfer(call, length));
         let description = Description {
             call,

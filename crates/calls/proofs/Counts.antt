@@ -13,9 +13,9 @@ use Rattle.calls.specs.Bytes.{EndedAs, Count, Carried}
 use Rattle.calls.specs.Calls.{Request, isCall, isKind, manual, transaction, receives, transmits, manualWrite}
 use Rattle.calls.specs.Outcomes.{isDone}
 use Rattle.calls.specs.Pieces.{blocksOf, piecesOf, pieceAt, mostOf, viewOf}
-use Rattle.calls.specs.Refusals.{listed, takes, takesGroup, groupTaken, timing, own, second, enable, peOn, listen, reloadOff}
+use Rattle.calls.specs.Refusals.{listed, hasPieces, takes, takesGroup, groupTaken, timing, own, second, enable, peOn, listen, reloadOff}
 use Rattle.calls.specs.Run.{Entry, byteOf, outOf, inOf, Uncut, uncutOf, putOut, takenIn}
-use Rattle.calls.specs.Steps.{bytesPut, countOf, awaited, waitAt, byteMoved, effectAt, applyOf, counted, noted, accessAt, accessOf, afterOf, beginOf, sameStep}
+use Rattle.calls.specs.Steps.{bytesPut, countOf, awaited, waitAt, byteMoved, effectAt, applyOf, counted, noted, accessAt, accessOf, afterOf, startAt, beginAt, beginOf, sameStep}
 use Rattle.calls.specs.declared.Access.the-variants.{Take, Write}
 use Rattle.calls.specs.declared.Flag.{Flag}
 use Rattle.calls.specs.declared.Flag.the-variants.{Rxne, Txis, Tc, Tcr, Stopf, Never}
@@ -26,6 +26,7 @@ use Rattle.calls.specs.declared.Step.{Step}
 use Rattle.calls.specs.declared.Step.the-variants.{Ended, Begin, StartStatus, StartControl, Wait, Byte, StopClear, BusClear, ArbitrationClear, NackClear, FlushTxis, FlushByte, FlushTxe, Flush, Timing, Own, Secondary, Enable, Delay1, Delay2, Disabled, Event, EventFlush, EventClear, Address, TransferClear, ModifyRead, ModifyWrite}
 use Rattle.calls.specs.declared.Effect.{Effect}
 use Rattle.calls.specs.declared.Effect.the-variants.{Goes, Loads, Notes, Next, Enters, Fails, Ends}
+use Rattle.calls.specs.declared.Call.{Call}
 use Rattle.calls.specs.declared.Call.the-variants.{WaitForEvent, WaitForStop}
 use Rattle.calls.proofs.Logic.{only, only-use, not-and, not-and-1, nor-1, or-0, or-1, or-else, by-test, both}
 use Rattle.calls.proofs.Every.{all, asks, implied, is-eq}
@@ -166,10 +167,10 @@ more-put true o j k m n most h g e = omega (arith, h tt)
 more-put false o j k m n most h g e = omega (arith, g tt)
 
 -- nothing is moved, nothing counts
-none-moved : (r w : Bool) (i j o : ℕ) → (i ≡ 0) × (j ≡ 0) × (o ≡ 0) → cond r (255 * i + j) (cond w o j - 1) ≡ 0
-none-moved true w i j o z = omega (arith, z .0, z .1)
-none-moved false true i j o z = omega (arith, z .2)
-none-moved false false i j o z = omega (arith, z .1)
+none-moved : (c : Call) (s : SavedCall) → (s .piece ≡ 0) × (s .byte ≡ 0) × (s .out ≡ 0) → countOf c s ≡ 0
+none-moved c s z =
+    by-test (λ (n : ℕ). n ≡ 0) (receives c) (λ _. omega (arith, z .0, z .1))
+    (λ _. by-test (λ (n : ℕ). n - 1 ≡ 0) (manual c) (λ _. omega (arith, z .2)) (λ _. omega (arith, z .1)))
 
 -- ---- Each access keeps it
 
@@ -264,7 +265,7 @@ says-after q s a t (Enters u) z f c e d = absurd (not-end u (f .why .1) e)
 says-after q s a t (Fails o) z f c e d = absurd e
 says-after q s a t (Ends o) z f c e d =
     let w = only-use (isDone o) _ d (c .why) in
-    w ∙ ap Done (by-test (λ n. n ≡ countOf (q .call) s) (inEvent t) (λ i. sym (none-moved (receives (q .call)) (manual (q .call)) _ _ _ (z i))) (λ _. refl))
+    w ∙ ap Done (by-test (λ n. n ≡ countOf (q .call) s) (inEvent t) (λ i. sym (none-moved (q .call) s (z i))) (λ _. refl))
 
 -- the entry of BYTE is one more, that of any other step none
 module _ (q : Request) (s : SavedCall) (b : List ℕ) (a : ℕ) (z : Seen) (x : T (target q)) where
@@ -328,7 +329,7 @@ unfolding beginOf
 counting-begins q b = record {
   inv = begins q b;
   stands = by-test (λ n. Stands q n 0 0 0) (receives (q .call)) (λ _. at-start) (λ _. at-start);
-  says = λ _ _. ap Done (sym (none-moved (receives (q .call)) (manual (q .call)) 0 0 0 (refl, refl, refl)));
+  says = λ _ _. ap Done (sym (none-moved (q .call) (startAt (q .call) (beginAt (q .call) (hasPieces q))) (refl, refl, refl)));
 }
   where
     at-start : Stands q 0 0 0 0

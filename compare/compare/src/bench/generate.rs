@@ -89,10 +89,16 @@ fn entries(random: &mut Random) -> Vec<Entry> {
 }
 
 /// A call with the answers that it asks for where it is described by a file; one in sixteen has its
-/// lengths at their edges, as far as a file has room, and mostly goes to its end.
+/// lengths at their edges, as far as a file has room, and mostly goes to its end, and one in 32 is a
+/// manual write that mostly meets a NACK between two blocks.
 fn case(random: &mut Random) -> Case {
-    if random.up_to(15) == 0 {
-        let mut case = meaning::as_read(&generate::edge(random));
+    let edge = match random.up_to(31) {
+        0 | 1 => Some(generate::edge(random)),
+        2 => Some(generate::between_blocks(random)),
+        _ => None,
+    };
+    if let Some(edge) = edge {
+        let mut case = meaning::as_read(&edge);
         if random.up_to(3) == 0 {
             let kept = random.up_to(case.answers.len() as u32);
             case.answers.truncate(kept as usize);

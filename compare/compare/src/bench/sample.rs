@@ -7,7 +7,7 @@ use super::text::{self, Accesses};
 use crate::calls::build::*;
 use crate::calls::case::Case;
 use crate::calls::chip::*;
-use crate::calls::known::Known;
+use crate::calls::known::MANUAL_WRITES;
 use crate::calls::run::Run;
 use crate::calls::sample as calls;
 use crate::stored::{File, Sample};
@@ -59,11 +59,10 @@ fn cut(name: &str, cases: Vec<Case>) -> Vec<File> {
         .collect()
 }
 
-/// Calls of the fixed sample, but that where the driver panics.
+/// Calls of the fixed sample.
 fn described(calls: Vec<calls::Described>) -> Vec<Case> {
     let cases = calls.iter().map(|(_, case)| meaning::as_read(case));
-    let panics = |case: &Case| Run::of(case).known == Some(Known::Nack);
-    cases.filter(|case| !panics(case)).collect()
+    cases.collect()
 }
 
 fn set_up() -> Vec<Case> {
@@ -183,24 +182,12 @@ fn blocks_in() -> Vec<Case> {
 
 /// Each with a zero after the last byte, then a NACK.
 fn blocks_out() -> Vec<Case> {
-    let event = |number| match number {
-        28 => call(28).answers(&[MATCH | DIR]).answers(&MANUAL),
-        _ => call(number),
+    let sends = |number, length| match manual_write(number, length, length + 1) {
+        case if length == 0 => case,
+        case => case.nacks(),
     };
-    let sends = |case: Case, length: usize| {
-        let counts = blocks(length).into_iter();
-        let case = case.bytes(&counted(length));
-        let case = counts.fold(case, |case, count| {
-            case.answers(&[0x01FF_0000]).asks_for(count)
-        });
-        if length == 0 {
-            case
-        } else {
-            case.asks_for(1).nacks()
-        }
-    };
-    let tried = |number| LENGTHS.map(|length| sends(event(number), length));
-    [26, 28].map(tried).concat()
+    let tried = |number| LENGTHS.map(|length| sends(number, length));
+    MANUAL_WRITES.map(tried).concat()
 }
 
 /// The lengths of a transfer's blocks.
@@ -474,6 +461,7 @@ fn word_mistakes() -> Vec<Mistake> {
 mod tests {
     use super::*;
     use crate::calls::generate::LISTED;
+    use crate::calls::known::Known;
     use std::collections::BTreeSet;
 
     fn all_runs() -> Vec<Run> {
@@ -494,7 +482,7 @@ mod tests {
         let refusals: BTreeSet<u32> = refusals.map(|run| run.value).collect();
         assert!(refusals.into_iter().eq([8, 10, 11, 12]));
         let known: BTreeSet<Known> = runs.iter().filter_map(|run| run.known).collect();
-        assert!(known.into_iter().eq([Known::Address]));
+        assert!(known.into_iter().eq(Known::ALL));
     }
 
     #[test]

@@ -39,6 +39,22 @@ pub fn transaction(operations: &[u32]) -> Case {
     case
 }
 
+/// A manual write of so many bytes, of which so many are asked for, and zeros past its end: call 26,
+/// or 28 after its event.
+pub fn manual_write(number: u32, length: usize, asked: usize) -> Case {
+    let mut case = call(number).bytes(&counted(length));
+    if number == 28 {
+        case = case.answers(&[MATCH | DIR]).answers(&MANUAL);
+    }
+    let begun = (0..length).step_by(255).take_while(|&start| start <= asked);
+    for start in begun {
+        let is_last = length - start <= 255;
+        let count = (asked - start).min(if is_last { usize::MAX } else { 255 });
+        case = case.answers(&[0x01FF_0000]).asks_for(count);
+    }
+    case
+}
+
 impl Case {
     pub fn asking(mut self, change: impl FnOnce(&mut Asked)) -> Self {
         change(&mut self.asked);

@@ -46,6 +46,18 @@ pub const fn addcode_of(status: u32) -> u32 {
     status >> 17 & 0x7F
 }
 
+/// Whether the entry at this place puts a byte out: each TXDR write does but a flush, two entries
+/// after a written ICR 0x10 (document 01).
+pub fn puts_out(log: &[Access], place: usize) -> bool {
+    let after_nack = place >= 2 && log[place - 2] == [WRITTEN + ICR, NACKF];
+    log[place][0] == WRITTEN + TXDR && !after_nack
+}
+
+/// How many bytes a log puts out.
+pub fn put_out(log: &[Access]) -> usize {
+    (0..log.len()).filter(|&place| puts_out(log, place)).count()
+}
+
 /// The word that a register was read as last.
 pub fn last_read(log: &[Access], register: u32) -> Option<u32> {
     let entry = log.iter().rev().find(|entry| entry[0] == register);

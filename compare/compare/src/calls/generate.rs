@@ -3,9 +3,10 @@
 use oracle::{explore, Asked, WAYS};
 
 use super::answers::{Answers, Stretch};
-use super::build::READ;
+use super::build::{call, READ};
 use super::case::Case;
 use super::chip::{ARLO, BERR, NACKF, STOPF};
+use super::known::MANUAL_WRITES;
 use super::pieces::sum;
 use crate::random::Random;
 
@@ -25,12 +26,13 @@ pub fn case(random: &mut Random) -> Case {
     case
 }
 
-/// As `case`; but one in 32 goes to its end with its lengths at their limits, and in one in 64
-/// nothing happens for long.
+/// As `case`; but one in 32 goes to its end with its lengths at their limits, in one in 64 nothing
+/// happens for long, and one in 64 is a manual write that meets a NACK between two blocks.
 pub fn case_or_edge(random: &mut Random) -> Case {
     match random.up_to(63) {
         0 | 1 => edge(random),
         2 => idling(random),
+        3 => between_blocks(random),
         _ => case(random),
     }
 }
@@ -46,8 +48,26 @@ pub fn edge(random: &mut Random) -> Case {
     } else {
         edge_length(random)
     };
+    ending(case, length, None, random)
+}
+
+/// A manual write that meets a NACK at byte 0 of a later block, the last or another, or next to it.
+pub fn between_blocks(random: &mut Random) -> Case {
+    let case = call(random.pick(&MANUAL_WRITES));
+    let border = 255 * (1 + random.up_to(2)) as usize;
+    let length = border + random.pick(&[1, 2, 255, 256, 257, 511]);
+    let bytes = random.pick(&[border, border, border - 1, border + 1]);
+    ending(case, length, Some(bytes), random)
+}
+
+/// A call with a buffer of this length and the answers by which it comes to its end, for a target's
+/// transfer perhaps after so many bytes.
+fn ending(mut case: Case, length: usize, bytes: Option<usize>, random: &mut Random) -> Case {
     case.buffer.resize_with(length, || random.word() as u8);
-    let choices = Answers::to_the_end(case.asked.call, length, random.split());
+    let mut choices = Answers::to_the_end(case.asked.call, length, random.split());
+    if let Some(bytes) = bytes {
+        choices = choices.moving(bytes);
+    }
     case.answers = chosen(&case, choices);
     case
 }

@@ -12,7 +12,6 @@ use oracle::{cut, Access, Asked, Description, Outcome, PanicKind};
 use super::build::{call, transaction};
 use super::case::Case;
 use super::chip::*;
-use super::known::whole_blocks;
 use super::pieces::{self, has_long, is_control, is_long};
 
 /// The most bytes that are lent, and the most operations.
@@ -195,8 +194,9 @@ impl RustRun {
         let mut buffer = buffer.to_vec();
         let run = oracle::run(description, &mut buffer, answers);
         let end = match run.outcome {
+            // In the accepted call nearby this block may be the last, where all bytes before count.
             Outcome::Panicked(panic) if panic.kind == PanicKind::NackAtOnce => {
-                End::Outcome(Outcome::Done, whole_blocks(&run.log))
+                End::Outcome(Outcome::Done, put_out(&run.log) as u32)
             }
             Outcome::Panicked(panic) => End::Panics(panic.kind),
             outcome => End::Outcome(outcome, run.value),

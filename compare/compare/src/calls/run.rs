@@ -42,7 +42,8 @@ impl Run {
         let description = case.asked.description(buffer.len());
         let description = description.expect("the driver can express what is accepted");
         let run = oracle::run(&description, &mut buffer, &case.answers);
-        let end = End::of(&run.outcome, run.value, &run.log);
+        let length = buffer.len();
+        let end = End::of(case.asked.call, length, &run.outcome, run.value, &run.log);
         let end = end.unwrap_or_else(|told| panic!("{}: {told}", case.text("")));
         Run {
             call: case.asked.call,
@@ -90,7 +91,7 @@ impl Run {
 #[cfg(test)]
 mod tests {
     use super::*;
-    use oracle::Asked;
+    use crate::calls::build::call;
 
     #[test]
     fn a_refused_call() {
@@ -99,24 +100,29 @@ mod tests {
         assert_eq!((run.value, run.used, run.log.len()), (12, 0, 0));
     }
 
+    /// The line of a manual write of zeros.
+    fn write(length: usize, answers: &[u32]) -> (String, Option<Known>) {
+        let run = Run::of(&call(26).zeros(length).answers(answers));
+        let mut line = String::new();
+        run.write_outcome(&mut line);
+        (line, run.known)
+    }
+
     #[test]
-    fn a_nack_at_once_counts_the_blocks_before() {
-        let case = |flush| Case {
-            asked: Asked {
-                call: 26,
-                ..Default::default()
-            },
-            buffer: vec![7; 511],
-            answers: [0]
-                .into_iter()
-                .chain([2; 255])
-                .chain([0, 0x11, flush, 1])
-                .collect(),
-        };
-        for flush in [1, 3] {
-            let run = Run::of(&case(flush));
-            assert_eq!(run.known, Some(Known::Nack));
-            assert_eq!((run.word, run.value), ("done", 255));
-        }
+    fn the_examples_of_r_6() {
+        let between = [&[0][..], &[2; 255], &[0, 0x11, 1, 1]].concat();
+        let line = "26 done 254 260 519\n".to_string();
+        let last = (line.clone(), Some(Known::LastBlock));
+        assert_eq!(write(256, &between), last);
+        assert_eq!(write(511, &between), (line, Some(Known::LaterBlock)));
+        let third = [&[0][..], &[2; 255], &[0], &[2; 255], &[0, 0x11, 1, 1]].concat();
+        let last = "26 done 509 516 1031\n".to_string();
+        assert_eq!(write(511, &third), (last, Some(Known::LastBlock)));
+        // A zero counts as put out, a flush does not.
+        let plain = |line: &str| (line.to_string(), None);
+        let zero = write(1, &[0, 2, 2, 0x10, 0, 1]);
+        assert_eq!(zero, plain("26 done 1 6 11\n"));
+        let flush = write(1, &[0, 2, 0x10, 2, 1]);
+        assert_eq!(flush, plain("26 done 0 5 10\n"));
     }
 }

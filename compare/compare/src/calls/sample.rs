@@ -418,9 +418,31 @@ pub fn blocks() -> Vec<Described> {
                 .nacks(),
         ),
         (
+            "manual: a zero after a byte counts as put out",
+            call(26).bytes(&[0x12]).answers(&[0, 2, 2, 0x10, 0, 1]),
+        ),
+        (
+            "manual: a byte that is flushed does not count as put out",
+            call(26).bytes(&[0x12]).answers(&[0, 2, 0x10, 2, 1]),
+        ),
+        (
+            "manual: a NACK at byte 0 of the first of two blocks, where the Rust panics",
+            manual_write(26, 256, 0).nacks(),
+        ),
+        (
+            "manual: a NACK at byte 0 of the second of two blocks: document 02 counts 254, the Rust \
+             255",
+            manual_write(26, 256, 255).nacks(),
+        ),
+        (
             "manual: a NACK at byte 0 of the second of three blocks, where the Rust panics: \
-             document 01 counts the first",
+             document 02 counts 254",
             second(call(26).bytes(&counted(511)).answers(&[0]).asks_for(255)).nacks(),
+        ),
+        (
+            "manual: a NACK at byte 0 of the third of three blocks, and a byte flushed: document 02 \
+             counts 509, the Rust 510",
+            manual_write(26, 511, 510).answers(&[NACKF | TXIS, TXIS, 0]),
         ),
         (
             "manual: a write event without a byte to take",
@@ -447,6 +469,10 @@ pub fn blocks() -> Vec<Described> {
                 .answers(&[0])
                 .asks_for(3)
                 .nacks(),
+        ),
+        (
+            "manual: a read event, and a NACK at byte 0 of the second of two blocks",
+            manual_write(28, 257, 255).nacks(),
         ),
         (
             "manual: a write event instead",

@@ -249,6 +249,7 @@ fn any_saved(call: u32, random: &mut Random) -> Vec<u8> {
         outcome,
         value,
         random.up_to(rattle::STEPS),
+        random.of_length(10),
     ];
     rattle::bytes(&words).to_vec()
 }

@@ -8,7 +8,8 @@ use super::cut::{self, Side};
 use super::room::{Log, Room, BLANK};
 use super::truth::{Truth, Uncut};
 use crate::calls::case::Case;
-use crate::calls::known::Known;
+use crate::calls::chip::put_out;
+use crate::calls::known::{Known, MANUAL_WRITES};
 use crate::calls::outside::{self, Row};
 use crate::calls::pieces::has_long;
 use crate::random::Random;
@@ -66,12 +67,22 @@ pub struct Ended {
 }
 
 /// What is lent to Rattle.
-#[derive(Default)]
 pub struct Lent {
     pub saved: [u8; SAVED],
     pub buffer: Room,
     pub answers: Room,
     pub log: Log,
+}
+
+impl Default for Lent {
+    fn default() -> Self {
+        Lent {
+            saved: [BLANK; SAVED],
+            buffer: Room::default(),
+            answers: Room::default(),
+            log: Log::default(),
+        }
+    }
 }
 
 #[derive(Default)]
@@ -83,10 +94,29 @@ pub struct Checker {
 impl Checker {
     /// Runs an input uncut and, where there are numbers to cut it by, cut. What differs is told.
     pub fn check(&mut self, input: Input, cuts: Option<&mut Random>) -> Result<Ended, String> {
+        self.check_ends(input, cuts, None)
+    }
+
+    /// Runs an input uncut, and cut after each of these numbers of accesses.
+    pub fn check_at(
+        &mut self,
+        input: Input,
+        ends: &[usize],
+        random: &mut Random,
+    ) -> Result<Ended, String> {
+        self.check_ends(input, Some(random), Some(ends))
+    }
+
+    fn check_ends(
+        &mut self,
+        input: Input,
+        cuts: Option<&mut Random>,
+        ends: Option<&[usize]>,
+    ) -> Result<Ended, String> {
         let uncut = self.truth.run(input.asked, input.buffer, input.answers)?;
         let mut ended = whole(&mut self.lent, input, &uncut)?;
         if let Some(random) = cuts {
-            ended.cuts = cut::check(&mut self.lent, input, &uncut, ended.awaited, random)?;
+            ended.cuts = cut::check(&mut self.lent, input, &uncut, ended.awaited, ends, random)?;
         }
         if uncut.is_refused() || has_long(input.asked) {
             ended.rows = outside::rows(&input.case())?;
@@ -128,7 +158,7 @@ fn whole(lent: &mut Lent, input: Input, uncut: &Uncut) -> Result<Ended, String> 
     same("the uncut advance", expected, given)?;
     entries(&mut lent.log, uncut.log)?;
     buffer(&lent.buffer, uncut.buffer)?;
-    state(lent, input, uncut, uncut.log.len())?;
+    state(lent, input, uncut, uncut.log.len(), || put_out(uncut.log))?;
     next(lent, input, uncut, uncut.log.len(), awaited)?;
     Ok(Ended {
         report: uncut.report,
@@ -154,18 +184,32 @@ pub fn begin(lent: &mut Lent, input: Input, uncut: &Uncut, shift: usize) -> Resu
     let refusal = if uncut.is_refused() { uncut.value } else { 0 };
     same("begin", refusal, given)?;
     buffer(&lent.buffer, input.buffer)?;
-    state(lent, input, uncut, 0)
+    state(lent, input, uncut, 0, || 0)
 }
 
-/// The saved call after so many accesses, as far as it is known: all of a refused one.
-pub fn state(lent: &Lent, input: Input, uncut: &Uncut, made: usize) -> Result<(), String> {
+/// The saved call after so many accesses, of which so many put a byte out, as far as it is known: all
+/// of a refused one.
+pub fn state(
+    lent: &Lent,
+    input: Input,
+    uncut: &Uncut,
+    made: usize,
+    put: impl FnOnce() -> usize,
+) -> Result<(), String> {
     if uncut.is_refused() {
         return same("the refused saved call", [0; SAVED], lent.saved);
     }
     let call = rattle::word(&lent.saved, saved::CALL);
     same("the saved call's number", input.asked.call, call)?;
     let accesses = rattle::word(&lent.saved, saved::ACCESSES);
-    same("the saved call's accesses", made as u32, accesses)
+    same("the saved call's accesses", made as u32, accesses)?;
+    // Only a manual write counts the bytes that it puts out (document 02, R-6).
+    let counted = match MANUAL_WRITES.contains(&input.asked.call) {
+        true => put().min(input.buffer.len() + 1),
+        false => 0,
+    };
+    let out = rattle::word(&lent.saved, saved::OUT);
+    same("the saved call's bytes put out", counted as u32, out)
 }
 
 /// The next access after so many.
@@ -237,7 +281,7 @@ impl Uncut<'_> {
 #[cfg(test)]
 mod tests {
     use super::*;
-    use crate::calls::build::{call, BOARD};
+    use crate::calls::build::{call, manual_write, BOARD, MATCH};
     use crate::calls::chip::{addcode, ADDR, DIR, TXE};
 
     type Change = fn(&mut Uncut);
@@ -274,5 +318,70 @@ mod tests {
         }
         assert!(differs(&board, |uncut| uncut.value = 0xF0));
         assert!(differs(&ten_bit, |uncut| uncut.value = 0x78));
+    }
+
+    /// At a NACK at byte 0 of a later block the total is document 02's alone; all else is the Rust's.
+    #[test]
+    fn nothing_but_the_total_is_excused() {
+        let others: [Change; 7] = [
+            |uncut| uncut.value += 1,
+            |uncut| uncut.value = uncut.value.wrapping_sub(1),
+            |uncut| uncut.report = 1,
+            |uncut| uncut.used -= 1,
+            |uncut| uncut.log = &uncut.log[1..],
+            |uncut| uncut.log = &uncut.log[..uncut.log.len() - 1],
+            |uncut| uncut.buffer = &uncut.buffer[1..],
+        ];
+        let between = [[256, 255], [510, 255], [511, 255], [511, 510], [256, 0]];
+        let beside = [
+            [256, 254],
+            [256, 256],
+            [511, 256],
+            [255, 0],
+            [255, 255],
+            [255, 257],
+        ];
+        for number in MANUAL_WRITES {
+            for [length, bytes] in [&between[..], &beside].concat() {
+                let case = manual_write(number, length, bytes).nacks();
+                assert!(!differs(&case, |_| {}));
+                for other in others {
+                    assert!(differs(&case, other), "call {number}, {bytes} of {length}");
+                }
+            }
+            // Neither the Rust's total there nor one less elsewhere.
+            let last = manual_write(number, 256, 255).nacks();
+            assert!(differs(&last, |uncut| uncut.value = 255));
+            let next = manual_write(number, 256, 256).nacks();
+            assert!(differs(&next, |uncut| uncut.value = 254));
+        }
+        for number in [10, 12] {
+            let event: &[u32] = if number == 12 { &[MATCH | DIR] } else { &[] };
+            let case = call(number).zeros(256).answers(event).asks_for(255).nacks();
+            assert!(!differs(&case, |uncut| assert_eq!(uncut.value, 254)));
+            assert!(differs(&case, |uncut| uncut.value = 253));
+        }
+    }
+
+    /// The saved call of a manual write has the bytes put out, and that of no other call.
+    #[test]
+    fn bytes_put_out_are_carried() {
+        let carried = |case: &Case| {
+            let saved = Checker::default().check(case.into(), None).unwrap().saved;
+            rattle::word(&saved, saved::OUT)
+        };
+        assert_eq!(carried(&manual_write(26, 256, 255)), 255);
+        assert_eq!(carried(&manual_write(28, 256, 255).nacks()), 255);
+        assert_eq!(carried(&manual_write(26, 2, 3)), 3);
+        assert_eq!(carried(&manual_write(26, 2, 9).nacks()), 3);
+        assert_eq!(carried(&call(10).zeros(2).asks_for(2).nacks()), 0);
+        let mut lent = Lent::default();
+        let case = manual_write(26, 2, 2);
+        let mut truth = Truth::default();
+        let uncut = truth.run(&case.asked, &case.buffer, &case.answers).unwrap();
+        assert!(whole(&mut lent, (&case).into(), &uncut).is_ok());
+        let made = uncut.log.len();
+        let told = |put| state(&lent, (&case).into(), &uncut, made, || put).is_err();
+        assert_eq!([1, 2, 3].map(told), [true, false, true]);
     }
 }

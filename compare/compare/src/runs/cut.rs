@@ -1,14 +1,17 @@
-//! A run cut at random, or where a later piece of an operation begins and where an event reads OAR1:
-//! answers and log places in portions of any size, with refused advances and questions for the next
-//! access in between. Document 01 says of each advance what it has to give.
+//! A run cut at random, or where a later piece of an operation begins, where an event reads OAR1 and
+//! around the NACK of a manual write: answers and log places in portions of any size, with refused
+//! advances and questions for the next access in between. Document 01 says of each advance what it has
+//! to give.
 
 use oracle::Access;
 
 use super::check::{self, same, Input, Lent};
+use super::totals;
 use super::truth::Uncut;
 use super::wrong;
 use crate::calls::build::READ;
-use crate::calls::chip::{OAR1, RXDR};
+use crate::calls::chip::{puts_out, OAR1, RXDR};
+use crate::calls::known::MANUAL_WRITES;
 use crate::calls::pieces;
 use crate::random::Random;
 use crate::rattle::{self, Advanced, ENTRY, FULL, WAITING};
@@ -38,29 +41,26 @@ impl Side {
     }
 }
 
+/// Cuts a run after each of these numbers of accesses, or as it comes. Gives where it was cut, of the
+/// places that tell something.
 pub fn check(
     lent: &mut Lent,
     input: Input,
     uncut: &Uncut,
     awaited: u32,
+    ends: Option<&[usize]>,
     random: &mut Random,
 ) -> Result<Vec<Side>, String> {
     check::begin(lent, input, uncut, random.up_to(7) as usize)?;
     let answers = [rattle::bytes(input.answers), &STRAY].concat();
     lent.answers.hold(&answers, random.up_to(7) as usize);
-    let mut cut = Cut {
-        input,
-        uncut,
-        awaited,
-        model: Model::new(input),
-        made: 0,
-        used: 0,
-        borders: borders(input, uncut.log),
-        sides: Vec::new(),
+    let mut cut = Cut::new(input, uncut, awaited);
+    let ends = match ends {
+        Some(ends) => ends.to_vec(),
+        None if random.up_to(1) == 0 => cut.beside_borders(),
+        None => Vec::new(),
     };
-    let at_borders = random.up_to(1) == 0;
-    let most_answers = portion(uncut.used, random);
-    let most_places = portion(uncut.log.len(), random);
+    let most = [uncut.used, uncut.log.len()].map(|all| portion(all, random));
     let mut wrongs = 0;
     for turn in 0.. {
         if random.up_to(3) == 0 {
@@ -70,11 +70,11 @@ pub fn check(
             wrongs += 1;
             wrong::check(lent, input, random)?;
         }
-        let portion = match cut.next_border() {
-            Some(border) if at_borders => cut.up_to(border, random),
-            _ => [most_answers, most_places].map(|most| random.up_to(most) as usize),
+        let next = ends.partition_point(|&end| end <= cut.made);
+        let [answers, places] = match ends.get(next) {
+            Some(&end) => cut.up_to(end, random),
+            None => most.map(|most| random.up_to(most) as usize),
         };
-        let [answers, places] = portion;
         let given = cut.advance(lent, answers, places, random)?;
         if turn % (1 + input.buffer.len() / 1_024) == 0 {
             check::buffer(&lent.buffer, &cut.model.buffer)?;
@@ -91,10 +91,16 @@ pub fn check(
     Ok(cut.sides)
 }
 
-/// The entries that begin a later piece of an operation, and those that read OAR1. No call has both.
+/// The entries that begin a later piece of an operation, those that read OAR1, and those around the
+/// NACK of a manual write, which comes after its event.
 fn borders(input: Input, log: &[Access]) -> Vec<usize> {
     let own = (0..log.len()).filter(|&place| log[place][0] == OAR1);
+    let nack = match MANUAL_WRITES.contains(&input.asked.call) {
+        true => totals::around_nack(log),
+        false => 0..0,
+    };
     own.chain(pieces::later_controls(input.asked, log))
+        .chain(nack)
         .collect()
 }
 
@@ -114,27 +120,44 @@ struct Cut<'a> {
     model: Model<'a>,
     made: usize,
     used: usize,
+    /// Bytes put out.
+    put: usize,
     /// The entries that tell something, and where advances ended beside one.
     borders: Vec<usize>,
     sides: Vec<Side>,
 }
 
-impl Cut<'_> {
-    /// The next place just before or just after an entry that tells something.
-    fn next_border(&self) -> Option<usize> {
-        let after = self.borders.partition_point(|&border| border < self.made);
-        let border = *self.borders.get(after)?;
-        Some(border.max(self.made + 1).min(border + 1))
+impl<'a> Cut<'a> {
+    fn new(input: Input<'a>, uncut: &'a Uncut<'a>, awaited: u32) -> Self {
+        Cut {
+            input,
+            uncut,
+            awaited,
+            model: Model::new(input),
+            made: 0,
+            used: 0,
+            put: 0,
+            borders: borders(input, uncut.log),
+            sides: Vec::new(),
+        }
     }
 
-    /// Answers and places by which an advance comes to this place: either of them ends there. After
-    /// its last answer an advance goes on as far as it writes.
+    /// The places just before and just after an entry that tells something.
+    fn beside_borders(&self) -> Vec<usize> {
+        let borders = self.borders.iter();
+        borders.flat_map(|&border| [border, border + 1]).collect()
+    }
+
+    /// Answers and places by which an advance comes to this place and no further: either of them ends
+    /// there. After its last answer an advance goes on as far as it writes.
     fn up_to(&self, place: usize, random: &mut Random) -> [usize; 2] {
         let entries = &self.uncut.log[self.made..place];
         let reads = entries.iter().filter(|entry| entry[0] < 0x100).count();
+        let writes_next = self.uncut.log.get(place).is_some_and(|it| it[0] >= 0x100);
+        let more = random.up_to(2) as usize;
         match random.up_to(1) {
-            0 => [reads + random.up_to(2) as usize, entries.len()],
-            _ => [reads, entries.len() + random.up_to(2) as usize],
+            1 if !writes_next => [reads, entries.len() + more],
+            _ => [reads + more, entries.len()],
         }
     }
 
@@ -164,6 +187,8 @@ impl Cut<'_> {
         let entries = &self.uncut.log[self.made..made];
         check::entries(&mut lent.log, entries)?;
         entries.iter().for_each(|&entry| self.model.make(entry));
+        let puts = (self.made..made).filter(|&place| puts_out(self.uncut.log, place));
+        self.put += puts.count();
         self.made = made;
         self.used += given.used;
         if self.borders.binary_search(&made).is_ok() {
@@ -172,7 +197,7 @@ impl Cut<'_> {
         if made > 0 && self.borders.binary_search(&(made - 1)).is_ok() {
             self.sides.push(Side::After);
         }
-        check::state(lent, self.input, self.uncut, self.made)?;
+        check::state(lent, self.input, self.uncut, self.made, || self.put)?;
         Ok(given)
     }
 
@@ -265,8 +290,10 @@ impl<'a> Model<'a> {
 #[cfg(test)]
 mod tests {
     use super::*;
-    use crate::calls::build::{call, transaction, BOARD};
-    use crate::calls::chip::DIR;
+    use crate::calls::build::{call, manual_write, transaction, BOARD};
+    use crate::calls::case::Case;
+    use crate::calls::chip::{DIR, NACKF, TXIS};
+    use crate::calls::run::Run;
     use crate::runs::check::Checker;
     use std::collections::BTreeSet;
 
@@ -316,6 +343,35 @@ mod tests {
             model.make([0x18, 0xFF]);
         }
         assert_eq!(model.buffer, [9, 1, 9, 9, 2, 3]);
+    }
+
+    /// Whether answers or places are what ends there.
+    #[test]
+    fn an_advance_comes_to_a_place_and_no_further() {
+        let case = manual_write(26, 256, 255).answers(&[NACKF, TXIS, 0]);
+        let run = Run::of(&case);
+        let uncut = uncut(&run.log, 0);
+        let mut random = Random::new(1);
+        let mut cut = Cut::new((&case).into(), &uncut, 0);
+        for made in [0, 1, 300, 511, 515, 520] {
+            cut.made = made;
+            for place in made + 1..=run.log.len() {
+                for _ in 0..10 {
+                    let [answers, places] = cut.up_to(place, &mut random);
+                    let given = uncut.advance(made, 0, answers, places);
+                    assert_eq!(made + given.written, place);
+                }
+            }
+        }
+    }
+
+    #[test]
+    fn a_manual_write_is_cut_around_its_nack() {
+        let borders = |case: &Case| borders(case.into(), &Run::of(case).log);
+        let between = manual_write(26, 256, 255).nacks();
+        assert_eq!(borders(&between), Vec::from_iter(511..519));
+        let automatic = call(10).zeros(256).asks_for(255).nacks();
+        assert_eq!(borders(&automatic), []);
     }
 
     #[test]

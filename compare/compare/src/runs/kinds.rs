@@ -1,18 +1,21 @@
 //! Kinds of run that have to occur, beside every call and outcome: long buffers that come to their
-//! end, long operations, long polls, events by ten-bit headers, saved calls at every piece, and what
-//! the Rust does with refused calls and with lists that are not cut.
+//! end, long operations, long polls, events by ten-bit headers, manual writes that meet a NACK, saved
+//! calls at every piece and with every number of bytes put out, and what the Rust does with refused
+//! calls and with lists that are not cut.
 
 use std::collections::{BTreeMap, BTreeSet};
 use std::fmt;
 
 use oracle::Access;
 
+use super::carried::Carried;
 use super::check::{Ended, Input};
 use super::headers::{self, Header};
 use super::polls::{self, Wait, WAITS};
 use super::shown::{self, Shown};
+use super::totals::{self, Total};
 use crate::calls::build::READ;
-use crate::calls::chip::{ICR, NACKF, TXDR, WRITTEN};
+use crate::calls::chip::put_out;
 use crate::calls::outside::Row;
 
 /// The calls of a target that move bytes, and those of them that put bytes out.
@@ -24,7 +27,7 @@ const LONG: usize = 765;
 const ZEROS: usize = 1_000;
 
 #[derive(Clone, Copy, Debug, PartialEq, Eq, PartialOrd, Ord)]
-enum Kind {
+pub enum Kind {
     /// A call moved all bytes of a long buffer and counted them.
     Full(u32),
     /// And it put out many zeros after them.
@@ -32,7 +35,9 @@ enum Kind {
     Polled(u32, Wait),
     Shown(Shown),
     Header(Header),
+    Total(Total),
     Saved(Saved),
+    Carried(Carried),
     Row(Row),
 }
 
@@ -72,9 +77,12 @@ impl Kind {
         let polled = WAITS.map(|(call, wait)| Kind::Polled(call, wait));
         let shown: Vec<Kind> = Shown::all().into_iter().map(Kind::Shown).collect();
         let headers: Vec<Kind> = Header::all().into_iter().map(Kind::Header).collect();
+        let totals: Vec<Kind> = Total::all().into_iter().map(Kind::Total).collect();
         let saved = Saved::ALL.map(Kind::Saved);
+        let carried: Vec<Kind> = Carried::all().into_iter().map(Kind::Carried).collect();
         let rows = Row::ALL.map(Kind::Row);
-        [&full[..], &zeros, &polled, &shown, &headers, &saved, &rows].concat()
+        let transfers = [&full[..], &zeros, &polled, &shown, &headers, &totals].concat();
+        [&transfers[..], &saved, &carried, &rows].concat()
     }
 }
 
@@ -88,7 +96,9 @@ impl fmt::Display for Kind {
             }
             Kind::Shown(shown) => write!(f, "call 7: {}", shown.words()),
             Kind::Header(header) => write!(f, "{header}"),
+            Kind::Total(total) => write!(f, "{total}"),
             Kind::Saved(saved) => write!(f, "call 7: saved calls {}", saved.words()),
+            Kind::Carried(carried) => write!(f, "{carried}"),
             Kind::Row(row) => write!(f, "rows of docs/DIFFERENCES.md, the Rust: {}", row.words()),
         }
     }
@@ -118,6 +128,9 @@ impl Kinds {
         for header in headers::of(call, ended.report, log, &ended.cuts) {
             self.add(Kind::Header(header));
         }
+        for total in totals::of(call, length, ended.report, log) {
+            self.add(Kind::Total(total));
+        }
         if call == 7 && ended.report == 0 {
             for word in &input.asked.operations {
                 self.done[usize::from(word & READ != 0)].insert(word & 0xFFFF);
@@ -126,21 +139,20 @@ impl Kinds {
         let full = ended.report == 0 && ended.value as usize == length;
         if full && length > LONG && TRANSFERS.contains(&call) {
             self.add(Kind::Full(call));
-            let before_flush = log.iter().take_while(|&&it| it != [WRITTEN + ICR, NACKF]);
-            let sent = before_flush.filter(|it| it[0] == WRITTEN + TXDR);
-            if sent.count() >= length + ZEROS {
+            if put_out(log) >= length + ZEROS {
                 self.add(Kind::Zeros(call));
             }
         }
     }
 
-    /// Counts a saved call.
-    pub fn count_saved(&mut self, saved: Saved) {
-        self.add(Kind::Saved(saved));
+    pub fn add(&mut self, kind: Kind) {
+        *self.counts.entry(kind).or_default() += 1;
     }
 
-    fn add(&mut self, kind: Kind) {
-        *self.counts.entry(kind).or_default() += 1;
+    /// The kinds that occurred.
+    #[cfg(test)]
+    pub fn kinds(self) -> impl Iterator<Item = Kind> {
+        self.counts.into_keys()
     }
 
     fn occurred(&self, kind: Kind) -> u64 {
@@ -192,7 +204,7 @@ mod tests {
         let mut kinds = Kinds::default();
         kinds.count(case.into(), &ended, checker.last().0);
         assert!(!kinds.all_reached());
-        kinds.counts.into_keys().collect()
+        kinds.kinds().collect()
     }
 
     #[test]

@@ -5,7 +5,7 @@
 use std::ops::RangeInclusive;
 
 use super::check::{same, Input};
-use super::kinds::{Kinds, Saved};
+use super::kinds::{Kind, Kinds, Saved};
 use super::progress::Stop;
 use super::words;
 use super::Comparison;
@@ -79,10 +79,81 @@ fn lists() -> Vec<Vec<u32>> {
     lists
 }
 
+/// A call whose saved calls are made up.
+pub struct MadeUp<'a> {
+    pub case: &'a Case,
+    description: Description,
+}
+
+impl<'a> MadeUp<'a> {
+    pub fn of(case: &'a Case) -> Self {
+        MadeUp {
+            case,
+            description: (&case.asked).into(),
+        }
+    }
+
+    fn operations(&self) -> &[u8] {
+        rattle::bytes(&self.case.asked.operations)
+    }
+
+    pub fn begin(&self) -> [u8; SAVED] {
+        let mut saved = [0; SAVED];
+        let buffer = &self.case.buffer;
+        rattle::begin(&self.description, self.operations(), buffer, &mut saved);
+        saved
+    }
+
+    pub fn next(&self, saved: &[u8]) -> Next {
+        let buffer = &self.case.buffer;
+        rattle::next(&self.description, self.operations(), saved, buffer)
+    }
+
+    pub fn advance(
+        &self,
+        saved: &mut [u8],
+        buffer: &mut [u8],
+        answers: &[u32],
+        log: &mut [u8],
+    ) -> Advanced {
+        let answers = rattle::bytes(answers);
+        rattle::advance(
+            &self.description,
+            self.operations(),
+            saved,
+            buffer,
+            answers,
+            log,
+        )
+    }
+
+    /// No advance takes this one: it is refused as 13, and changes nothing.
+    pub fn refused(&self, before: [u8; SAVED]) -> Result<(), String> {
+        let next = Next {
+            kind: NONE_REFUSED,
+            value: 13,
+        };
+        same("the next access", next, self.next(&before))?;
+        let mut saved = before;
+        let mut buffer = self.case.buffer.clone();
+        let mut log = [0xB1; 2 * ENTRY];
+        let given = self.advance(&mut saved, &mut buffer, &[TXE, 0], &mut log);
+        let expected = Advanced {
+            report: REFUSED,
+            value: 13,
+            awaited: 0,
+            used: 0,
+            written: 0,
+        };
+        same("the advance", expected, given)?;
+        let kept = saved == before && buffer == self.case.buffer && log == [0xB1; 2 * ENTRY];
+        same("what a refused advance keeps", true, kept)
+    }
+}
+
 /// A transaction that goes to its end, and what its pieces are.
 struct Pieces<'a> {
-    case: &'a Case,
-    description: Description,
+    call: MadeUp<'a>,
     pieces: Vec<Piece>,
     /// The CR2 word of each, by the Rust's run.
     controls: Vec<u32>,
@@ -95,8 +166,7 @@ impl<'a> Pieces<'a> {
         let run = Run::of(case);
         let controls = run.log.iter().filter(|entry| entry[0] == WRITTEN + CR2);
         Pieces {
-            case,
-            description: (&case.asked).into(),
+            call: MadeUp::of(case),
             pieces: pieces::of(&case.asked.operations),
             controls: controls.map(|entry| entry[1]).collect(),
             stands: (0..STANDS.len()).map(stand).collect(),
@@ -130,15 +200,15 @@ impl<'a> Pieces<'a> {
             for byte in bytes {
                 for (stand, saved) in STANDS.into_iter().zip(&self.stands) {
                     let mut saved = *saved;
-                    put(&mut saved, saved::PIECE, piece);
-                    put(&mut saved, saved::BYTE, byte);
+                    rattle::put(&mut saved, saved::PIECE, piece);
+                    rattle::put(&mut saved, saved::BYTE, byte);
                     self.try_one(stand, saved).map_err(|told| {
                         format!("a saved call at piece {piece}, byte {byte}, {stand:?}: {told}")
                     })?;
                     tried += 1;
                 }
                 if let Some(saved) = counted(piece, byte, count, size) {
-                    kinds.count_saved(saved);
+                    kinds.add(Kind::Saved(saved));
                 }
             }
         }
@@ -156,7 +226,7 @@ impl<'a> Pieces<'a> {
         let taken =
             piece.filter(|it| byte <= it.size + 1 && (stand != Stand::Byte || byte < it.size));
         let Some(piece) = taken else {
-            return self.refused(saved);
+            return self.call.refused(saved);
         };
         let (kind, value) = match stand {
             Stand::Begin => (rattle::WRITE, CR2),
@@ -165,7 +235,8 @@ impl<'a> Pieces<'a> {
             Stand::Byte if piece.reads => (rattle::READ, RXDR),
             Stand::Byte => (rattle::WRITE, TXDR),
         };
-        same("the next access", Next { kind, value }, self.next(&saved))?;
+        let next = self.call.next(&saved);
+        same("the next access", Next { kind, value }, next)?;
         match stand {
             Stand::Begin => {
                 let control = [WRITTEN + CR2, self.controls[number as usize]];
@@ -189,7 +260,7 @@ impl<'a> Pieces<'a> {
     }
 
     fn byte(&self, piece: Piece, byte: usize) -> u8 {
-        self.case.buffer[piece.start + byte]
+        self.call.case.buffer[piece.start + byte]
     }
 
     /// The wait for the end of a piece: TCR, TC or STOPF by its CR2 word, and no other flag.
@@ -209,11 +280,6 @@ impl<'a> Pieces<'a> {
         self.makes(saved, &[awaited], &[[ISR, awaited], next], None)
     }
 
-    fn next(&self, saved: &[u8]) -> Next {
-        let operations = rattle::bytes(&self.case.asked.operations);
-        rattle::next(&self.description, operations, saved, &self.case.buffer)
-    }
-
     /// An advance with these answers and as many places as there are entries makes these entries,
     /// and changes no byte but perhaps one.
     fn makes(
@@ -223,9 +289,12 @@ impl<'a> Pieces<'a> {
         entries: &[[u32; 2]],
         changed: Option<usize>,
     ) -> Result<(), String> {
-        let mut buffer = self.case.buffer.clone();
+        let before = &self.call.case.buffer;
+        let mut buffer = before.clone();
         let mut log = vec![0; entries.len() * ENTRY];
-        let given = self.advance(&mut saved, &mut buffer, answers, &mut log);
+        let given = self
+            .call
+            .advance(&mut saved, &mut buffer, answers, &mut log);
         same(
             "the report",
             true,
@@ -234,73 +303,26 @@ impl<'a> Pieces<'a> {
         let counts = (given.used, given.written);
         same("the counts", (answers.len(), entries.len()), counts)?;
         same("the entries", rattle::bytes(entries.as_flattened()), &log)?;
-        let mut expected = self.case.buffer.clone();
+        let mut expected = before.clone();
         if let Some(place) = changed {
             expected[place] = !expected[place];
         }
         same("the buffer", true, expected == buffer)
-    }
-
-    fn refused(&self, before: [u8; SAVED]) -> Result<(), String> {
-        let next = Next {
-            kind: NONE_REFUSED,
-            value: 13,
-        };
-        same("the next access", next, self.next(&before))?;
-        let mut saved = before;
-        let mut buffer = self.case.buffer.clone();
-        let mut log = [0xB1; 2 * ENTRY];
-        let given = self.advance(&mut saved, &mut buffer, &[TXE, 0], &mut log);
-        let expected = Advanced {
-            report: REFUSED,
-            value: 13,
-            awaited: 0,
-            used: 0,
-            written: 0,
-        };
-        same("the advance", expected, given)?;
-        let kept = saved == before && buffer == self.case.buffer && log == [0xB1; 2 * ENTRY];
-        same("what a refused advance keeps", true, kept)
-    }
-
-    fn advance(
-        &self,
-        saved: &mut [u8],
-        buffer: &mut [u8],
-        answers: &[u32],
-        log: &mut [u8],
-    ) -> Advanced {
-        let operations = rattle::bytes(&self.case.asked.operations);
-        let answers = rattle::bytes(answers);
-        rattle::advance(&self.description, operations, saved, buffer, answers, log)
     }
 }
 
 /// The saved call after so many accesses of a write of one byte.
 fn stand(accesses: usize) -> [u8; SAVED] {
     let case = transaction(&[1]).bytes(&[0x12]);
-    let description = Description::from(&case.asked);
-    let operations = rattle::bytes(&case.asked.operations);
-    let mut saved = [0; SAVED];
-    let mut buffer = case.buffer.clone();
-    rattle::begin(&description, operations, &buffer, &mut saved);
-    rattle::advance(
-        &description,
-        operations,
-        &mut saved,
-        &mut buffer,
-        rattle::bytes(&[TXE, 0, TXIS]),
-        &mut vec![0; accesses * ENTRY],
-    );
+    let call = MadeUp::of(&case);
+    let mut saved = call.begin();
+    let mut log = vec![0; accesses * ENTRY];
+    call.advance(&mut saved, &mut [0x12], &[TXE, 0, TXIS], &mut log);
     saved
 }
 
 fn around(size: u32) -> RangeInclusive<u32> {
     size.saturating_sub(1)..=size + 2
-}
-
-fn put(saved: &mut [u8; SAVED], number: usize, word: u32) {
-    saved[4 * number..4 * number + 4].copy_from_slice(&word.to_le_bytes());
 }
 
 /// What is counted of a saved call at a piece of so many, which has so many bytes.
@@ -322,7 +344,7 @@ mod tests {
     fn a_write_of_one_byte_stands_in_each_way() {
         let case = transaction(&[1]).bytes(&[0x12]);
         let each = Pieces::of(&case);
-        let next = each.stands.iter().map(|saved| each.next(saved));
+        let next = each.stands.iter().map(|saved| each.call.next(saved));
         let next: Vec<(u32, u32)> = next.map(|it| (it.kind, it.value)).collect();
         let (read, write) = (rattle::READ, rattle::WRITE);
         let expected = [

@@ -67,7 +67,8 @@ impl Truth {
         let description = asked.description(self.buffer.len());
         let description = description.expect("the driver can express what is accepted");
         let (outcome, value) = run_over(&self.registers, &description, &mut self.buffer);
-        End::of(&outcome, value, self.registers.log())
+        let (call, length) = (asked.call, self.buffer.len());
+        End::of(call, length, &outcome, value, self.registers.log())
     }
 }
 

@@ -5,6 +5,7 @@ use oracle::Asked;
 use crate::calls::build::{call, counted, transaction, READ};
 use crate::calls::case::Case;
 use crate::calls::chip::*;
+use crate::calls::known::MANUAL_WRITES;
 use crate::calls::pieces::sum;
 use crate::rattle::{self, saved};
 
@@ -150,6 +151,8 @@ pub fn large() -> Vec<Case> {
         cases.extend([254, 255, 256, 257].map(|length| manual(number, length)));
     }
     cases.extend([25, 26, 27, 28].map(|number| manual(number, 511)));
+    cases.push(manual(28, 256));
+    cases.extend(MANUAL_WRITES.map(|number| manual(number, 766)));
     cases
 }
 

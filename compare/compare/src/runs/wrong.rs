@@ -5,6 +5,7 @@ use oracle::Asked;
 use super::check::{same, Input, Lent};
 use crate::calls::build::READ;
 use crate::calls::generate::{LISTED, UNLISTED};
+use crate::calls::known::MANUAL_WRITES;
 use crate::calls::pieces;
 use crate::random::Random;
 use crate::rattle::{self, saved, Advanced, Description, Next, NONE_REFUSED, REFUSED};
@@ -76,7 +77,8 @@ impl Wrong {
         let size = sizes.get(piece).copied().unwrap_or(0) as u32;
         // A call without pieces counts as having an empty one.
         let past = sizes.len().max(1) as u32;
-        match random.up_to(6) {
+        let counts = MANUAL_WRITES.contains(&self.asked.call);
+        match random.up_to(7) {
             0 => self.put(saved::CALL, random.pick(&[0, 16, 30, u32::MAX])),
             1 => self.put(saved::OUTCOME, 10 + random.of_length(28)),
             2 => self.put(saved::STEP, 46 + random.of_length(28)),
@@ -89,8 +91,13 @@ impl Wrong {
                 self.put(saved::PIECE, number);
             }
             5 if !ended => self.put(saved::BYTE, random.pick(&[size + 2, size + 256, far])),
+            6 if !ended && counts => {
+                let length = self.buffer.len() as u32;
+                let number = random.pick(&[length + 2, length + 3, length + 256, far]);
+                self.put(saved::OUT, number);
+            }
             _ => {
-                let lengths = [0, 1, 4, 28, 31, 33, 36, 64];
+                let lengths = [0, 1, 4, 32, 35, 37, 40, 64];
                 self.saved.resize(random.pick(&lengths), 0);
             }
         }
@@ -114,7 +121,7 @@ impl Wrong {
     }
 
     fn put(&mut self, number: usize, word: u32) {
-        self.saved[4 * number..4 * number + 4].copy_from_slice(&word.to_le_bytes());
+        rattle::put(&mut self.saved, number, word);
     }
 
     fn refused(
