@@ -155,7 +155,7 @@ module _ (q : Request) (x : T (target q)) where
 -- ---- Where a transfer stands, in block i at byte j with o carried as put out, once m bytes are moved
 
 record Stands (q : Request) (m i j o : ℕ) : Type 0 where
-  -- no block but the last is left whole
+  -- a block that is not the last is left as soon as it is whole
   running : i + 1 < length (piecesOf q) → j < 255
   received : T (receives (q .call)) → m ≡ 255 * i + j
   put : T (transmits (q .call)) → cond (manual (q .call)) o j ≡ min m (q .size + 1)
