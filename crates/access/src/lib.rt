@@ -1,7 +1,7 @@
 // The access of a step, and its register alone, which takes neither a byte nor a word.
 ghost use Rattle.std.specs.Prelude.{◌≡◌, List, ℕ, ◌+◌, get_or};
-ghost use Rattle.registers.specs.Places.{ICR-ADDRCF, ICR-NACKCF, ICR-STOPCF, ICR-BERRCF, ICR-ARLOCF};
-ghost use Rattle.calls.specs.Steps.{clears, flushes, enables, byteOut, byteAccess, accessAt};
+ghost use Rattle.registers.specs.Places.{ICR_ADDRCF, ICR_NACKCF, ICR_STOPCF, ICR_BERRCF, ICR_ARLOCF};
+ghost use Rattle.calls.specs.Steps.{clears, flushes, enables, byte_out, byte_access, access_at};
 ghost use Rattle.calls.specs.Next.{next_of};
 
 use calls::{Access, Call, Description, Next, SavedCall, Step, View};
@@ -10,31 +10,31 @@ use registers::{Cr1, Icr, Isr, Register, Txdr};
 mod words;
 
 fn clear_stop() -> Access
-    ensures { result ≡ clears ICR-STOPCF }
+    ensures { result ≡ clears ICR_STOPCF }
 {
     Access::Write(Register::Icr, Icr(Icr::RESET).with_stopcf(true).0)
 }
 
 fn clear_bus() -> Access
-    ensures { result ≡ clears ICR-BERRCF }
+    ensures { result ≡ clears ICR_BERRCF }
 {
     Access::Write(Register::Icr, Icr(Icr::RESET).with_berrcf(true).0)
 }
 
 fn clear_arbitration() -> Access
-    ensures { result ≡ clears ICR-ARLOCF }
+    ensures { result ≡ clears ICR_ARLOCF }
 {
     Access::Write(Register::Icr, Icr(Icr::RESET).with_arlocf(true).0)
 }
 
 fn clear_nack() -> Access
-    ensures { result ≡ clears ICR-NACKCF }
+    ensures { result ≡ clears ICR_NACKCF }
 {
     Access::Write(Register::Icr, Icr(Icr::RESET).with_nackcf(true).0)
 }
 
 fn clear_address() -> Access
-    ensures { result ≡ clears ICR-ADDRCF }
+    ensures { result ≡ clears ICR_ADDRCF }
 {
     Access::Write(Register::Icr, Icr(Icr::RESET).with_addrcf(true).0)
 }
@@ -71,7 +71,7 @@ fn byte_at(b: &[u8], i: usize) -> u32
 }
 
 pub fn byte_out(v: View, b: &[u8], s: SavedCall) -> u32
-    ensures { result ≡ byteOut v b.now s }
+    ensures { result ≡ byte_out v b.now s }
 {
     if s.byte < v.size {
         return byte_at(b, place(v, s));
@@ -80,7 +80,7 @@ pub fn byte_out(v: View, b: &[u8], s: SavedCall) -> u32
 }
 
 fn byte_access(v: View, b: &[u8], s: SavedCall) -> Access
-    ensures { result ≡ byteAccess v b.now s }
+    ensures { result ≡ byte_access v b.now s }
 {
     if v.reads {
         return Access::Take(place(v, s));
@@ -89,7 +89,7 @@ fn byte_access(v: View, b: &[u8], s: SavedCall) -> Access
 }
 
 pub fn access(c: Call, d: Description, v: View, b: &[u8], s: SavedCall) -> Access
-    ensures { result ≡ accessAt c d v b.now s s.step }
+    ensures { result ≡ access_at c d v b.now s s.step }
 {
     let step = s.step;
     let config = d.config;
@@ -129,7 +129,7 @@ pub fn access(c: Call, d: Description, v: View, b: &[u8], s: SavedCall) -> Acces
 }
 
 fn byte_register(v: View) -> Next
-    ensures { (b : List ℕ) (s : SavedCall) → result ≡ next_of (byteAccess v b s) }
+    ensures { (b : List ℕ) (s : SavedCall) → result ≡ next_of (byte_access v b s) }
 {
     if v.reads {
         return Next::Read(Register::Rxdr);
@@ -138,7 +138,7 @@ fn byte_register(v: View) -> Next
 }
 
 pub fn register_at(d: Description, v: View, s: SavedCall) -> Next
-    ensures { (c : Call) (b : List ℕ) → result ≡ next_of (accessAt c d v b s s.step) }
+    ensures { (c : Call) (b : List ℕ) → result ≡ next_of (access_at c d v b s s.step) }
 {
     let step = s.step;
     match step {

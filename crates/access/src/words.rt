@@ -1,6 +1,6 @@
 // The words that a call writes into control registers. A modify's word keeps what was read but for its fields.
 ghost use Rattle.std.specs.Prelude.{◌≡◌};
-ghost use Rattle.calls.specs.Words.{transfer, addressed, cr2Of, targetTiming, timingrOf, ownWord, secondaryWord, oar1Of, oar2Of, listenRegister, registerOf, enabledWord, listenWord, alterOf};
+ghost use Rattle.calls.specs.Words.{transfer, addressed, cr2_of, target_timing, timingr_of, own_word, secondary_word, oar1_of, oar2_of, listen_register, register_of, enabled_word, listen_word, alter_of};
 
 use calls::{
     AddressMode, Call, Configuration, Description, MaskBits, Modify, SecondaryAddress, View,
@@ -37,7 +37,7 @@ fn with_address(mode: AddressMode, address: u32, again: bool, w: u32) -> u32
 
 // Begins an operation; `again` where the start is repeated.
 pub fn cr2_word(d: Description, v: View, again: bool) -> u32
-    ensures { result ≡ cr2Of d v again }
+    ensures { result ≡ cr2_of d v again }
 {
     let w = transfer_word(v);
     if v.reload {
@@ -48,7 +48,7 @@ pub fn cr2_word(d: Description, v: View, again: bool) -> u32
 }
 
 fn target_timing(t: I2cTiming) -> I2cTiming
-    ensures { result ≡ targetTiming t }
+    ensures { result ≡ target_timing t }
 {
     I2cTiming {
         presc: t.presc,
@@ -60,7 +60,7 @@ fn target_timing(t: I2cTiming) -> I2cTiming
 }
 
 pub fn timingr_word(c: Call, d: Description) -> u32
-    ensures { result ≡ timingrOf c d }
+    ensures { result ≡ timingr_of c d }
 {
     let raw = d.timing;
     let t = raw.unpack();
@@ -71,7 +71,7 @@ pub fn timingr_word(c: Call, d: Description) -> u32
 }
 
 fn own_word(mode: AddressMode, own: u32) -> u32
-    ensures { result ≡ ownWord mode own }
+    ensures { result ≡ own_word mode own }
 {
     match mode {
         AddressMode::AddressMode7bit => Oar1::seven_bit(own).0,
@@ -80,7 +80,7 @@ fn own_word(mode: AddressMode, own: u32) -> u32
 }
 
 pub fn oar1_word(config: Configuration) -> u32
-    ensures { result ≡ oar1Of config }
+    ensures { result ≡ oar1_of config }
 {
     match config {
         Configuration::Unconfigured => Oar1::RESET,
@@ -92,7 +92,7 @@ pub fn oar1_word(config: Configuration) -> u32
 }
 
 fn masked_word(address: u32, mask: MaskBits) -> u32
-    ensures { result ≡ secondaryWord (SecondaryAddress.Secondary address) mask }
+    ensures { result ≡ secondary_word (SecondaryAddress.Secondary address) mask }
 {
     match mask {
         MaskBits::Unmasked => Oar2::secondary(address).0,
@@ -101,7 +101,7 @@ fn masked_word(address: u32, mask: MaskBits) -> u32
 }
 
 fn secondary_word(secondary: SecondaryAddress, mask: MaskBits) -> u32
-    ensures { result ≡ secondaryWord secondary mask }
+    ensures { result ≡ secondary_word secondary mask }
 {
     match secondary {
         SecondaryAddress::NoSecondary => Oar2::RESET,
@@ -110,7 +110,7 @@ fn secondary_word(secondary: SecondaryAddress, mask: MaskBits) -> u32
 }
 
 pub fn oar2_word(config: Configuration) -> u32
-    ensures { result ≡ oar2Of config }
+    ensures { result ≡ oar2_of config }
 {
     match config {
         Configuration::Unconfigured => Oar2::RESET,
@@ -123,7 +123,7 @@ pub fn oar2_word(config: Configuration) -> u32
 }
 
 fn listen_register(kind: u32) -> Register
-    ensures { result ≡ listenRegister kind }
+    ensures { result ≡ listen_register kind }
 {
     if kind == 0 {
         return Register::Cr1;
@@ -135,7 +135,7 @@ fn listen_register(kind: u32) -> Register
 }
 
 pub fn register_of(d: Description, m: Modify) -> Register
-    ensures { result ≡ registerOf d m }
+    ensures { result ≡ register_of d m }
 {
     match m {
         Modify::PeOff => Register::Cr1,
@@ -152,7 +152,7 @@ pub fn register_of(d: Description, m: Modify) -> Register
 }
 
 fn enabled_word(c: Call, w: u32) -> u32
-    ensures { result ≡ enabledWord c w }
+    ensures { result ≡ enabled_word c w }
 {
     if call::is_call(c, Call::TargetNew) {
         return Cr1(w).with_anfoff(false).with_pe(true).0;
@@ -161,7 +161,7 @@ fn enabled_word(c: Call, w: u32) -> u32
 }
 
 fn listen_word(c: Call, kind: u32, w: u32) -> u32
-    ensures { result ≡ listenWord c kind w }
+    ensures { result ≡ listen_word c kind w }
 {
     let on = call::is_call(c, Call::EnableTargetEvent);
     if kind == 0 {
@@ -175,7 +175,7 @@ fn listen_word(c: Call, kind: u32, w: u32) -> u32
 
 // What a modify writes, of the word that it read.
 pub fn alter(c: Call, d: Description, v: View, w: u32, m: Modify) -> u32
-    ensures { result ≡ alterOf c d v w m }
+    ensures { result ≡ alter_of c d v w m }
 {
     match m {
         Modify::PeOff => Cr1(w).with_pe(false).0,

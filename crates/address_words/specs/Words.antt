@@ -12,16 +12,16 @@ use Rattle.calls.specs.declared.TargetConfig.{TargetConfig}
 abbrev pub none : ℕ
 none = 0xFFFFFFFF
 
-abbrev pub secondaryIn : ℕ → SecondaryAddress
-secondaryIn w = cond (eqb w none) NoSecondary (Secondary w)
+abbrev pub secondary_in : ℕ → SecondaryAddress
+secondary_in w = cond (eqb w none) NoSecondary (Secondary w)
 
-abbrev pub maskIn : ℕ → MaskBits
-maskIn w = cond (eqb w none) Unmasked (Masked w)
+abbrev pub mask_in : ℕ → MaskBits
+mask_in w = cond (eqb w none) Unmasked (Masked w)
 
 abbrev pub mode_of : Bool → AddressMode
 mode_of ten = cond ten AddressMode10bit AddressMode7bit
 
 -- the mode is 0, or not 0 for ten bits
-abbrev pub configIn : ℕ → ℕ → ℕ → ℕ → TargetConfig
-configIn own ten secondary mask =
-    record { own = own; secondary = secondaryIn secondary; mask = maskIn mask; mode = mode_of (not (eqb ten 0)) }
+abbrev pub config_in : ℕ → ℕ → ℕ → ℕ → TargetConfig
+config_in own ten secondary mask =
+    record { own = own; secondary = secondary_in secondary; mask = mask_in mask; mode = mode_of (not (eqb ten 0)) }

@@ -1,8 +1,8 @@
 // A target's configuration as a bench file and a C caller tell it: four words, of which 0xFFFFFFFF is no secondary address and
 // no mask. Only here does that word mean so; in the core every word is an address.
 ghost use Rattle.std.specs.Prelude.{◌≡◌, cond, eqb};
-ghost use Rattle.calls.specs.Calls.{withSecondary, withMask};
-ghost use Rattle.address_words.specs.Words.{none, mode_of, configIn};
+ghost use Rattle.calls.specs.Calls.{with_secondary, with_mask};
+ghost use Rattle.address_words.specs.Words.{none, mode_of, config_in};
 
 use calls::{AddressMode, TargetConfig};
 
@@ -18,7 +18,7 @@ pub fn address_mode(ten: bool) -> AddressMode
 }
 
 fn with_secondary(t: TargetConfig, word: u32) -> TargetConfig
-    ensures { result ≡ cond (eqb word none) t (withSecondary word t) }
+    ensures { result ≡ cond (eqb word none) t (with_secondary word t) }
 {
     if word == NONE {
         return t;
@@ -27,7 +27,7 @@ fn with_secondary(t: TargetConfig, word: u32) -> TargetConfig
 }
 
 fn with_mask(t: TargetConfig, word: u32) -> TargetConfig
-    ensures { result ≡ cond (eqb word none) t (withMask word t) }
+    ensures { result ≡ cond (eqb word none) t (with_mask word t) }
 {
     if word == NONE {
         return t;
@@ -37,7 +37,7 @@ fn with_mask(t: TargetConfig, word: u32) -> TargetConfig
 
 // Each word goes in by its setter.
 pub fn config(own: u32, ten: u32, secondary: u32, mask: u32) -> TargetConfig
-    ensures { result ≡ configIn own ten secondary mask }
+    ensures { result ≡ config_in own ten secondary mask }
 {
     let addressed = TargetConfig::new(0)
         .own_address(own)

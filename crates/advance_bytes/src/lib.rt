@@ -1,9 +1,9 @@
 // An advance over bytes: answers are read and entries written piece by piece, through arrays of words.
 ghost use Rattle.std.specs.Prelude.{◌≡◌, true, ◌*◌, ◌/◌, ◌-◌, ◌≤◌, min, length, drop};
-ghost use Rattle.calls.specs.Joined.{isFull, asReached, reachedBy, goOn, restFrom};
-ghost use Rattle.calls.specs.Run.{asFinal, finalOf, run_of};
+ghost use Rattle.calls.specs.Joined.{is_full, as_reached, reached_by, go_on, rest_from};
+ghost use Rattle.calls.specs.Run.{as_final, final_of, run_of};
 ghost use Rattle.words.specs.Words.{words_in};
-ghost use Rattle.advance_bytes.specs.Pieces.{inBytes};
+ghost use Rattle.advance_bytes.specs.Pieces.{in_bytes};
 
 use calls::{Advanced, Description, Report, SavedCall};
 use kinds::report;
@@ -26,7 +26,7 @@ fn advance(
     log: &mut [u32],
 ) -> Advanced
     requires { length log.old / 2 ≤ length window.old }
-    ensures { asFinal result buffer.new log.new ≡ finalOf d ops.now t.saved buffer.old (drop t.used (words_in answers.now)) log.old }
+    ensures { as_final result buffer.new log.new ≡ final_of d ops.now t.saved buffer.old (drop t.used (words_in answers.now)) log.old }
 {
     let n = words::decode_from(answers, t.used, window);
     let saved = t.saved;
@@ -45,7 +45,7 @@ fn piece(
     entries: &mut [u32],
 ) -> Advanced
     requires { (t.used ≤ length answers.now / 4) × (t.written ≤ length log.old / 8) × (length entries.old / 2 ≤ length window.old) }
-    ensures { asReached result buffer.new log.new ≡ goOn inBytes d ops.now (words_in answers.now) (min (length entries.old / 2) (length log.old / 8 - t.written)) (asReached t buffer.old log.old) }
+    ensures { as_reached result buffer.new log.new ≡ go_on in_bytes d ops.now (words_in answers.now) (min (length entries.old / 2) (length log.old / 8 - t.written)) (as_reached t buffer.old log.old) }
 {
     let k = least(entries.len() / 2, log.len() / 8 - t.written);
     let a = advance(t, d, ops, buffer, answers, window, &mut entries[..2 * k]);
@@ -82,8 +82,8 @@ fn rest(
     answers: &[u8],
     log: &mut [u8],
 ) -> Advanced
-    requires { (first.used ≤ length answers.now / 4) × (first.written ≤ length log.old / 8) × (isFull first.report ≡ true) }
-    ensures { asReached result buffer.new log.new ≡ restFrom inBytes d ops.now (words_in answers.now) (length log.old / 8 - first.written) (asReached first buffer.old log.old) }
+    requires { (first.used ≤ length answers.now / 4) × (first.written ≤ length log.old / 8) × (is_full first.report ≡ true) }
+    ensures { as_reached result buffer.new log.new ≡ rest_from in_bytes d ops.now (words_in answers.now) (length log.old / 8 - first.written) (as_reached first buffer.old log.old) }
 {
     let mut window = large_window();
     let mut entries = large_log();
@@ -121,7 +121,7 @@ pub fn run(
     answers: &[u8],
     log: &mut [u8],
 ) -> Advanced
-    ensures { asReached result buffer.new log.new ≡ reachedBy inBytes (run_of d ops.now (length log.old / 8) saved buffer.old (words_in answers.now)) log.old }
+    ensures { as_reached result buffer.new log.new ≡ reached_by in_bytes (run_of d ops.now (length log.old / 8) saved buffer.old (words_in answers.now)) log.old }
 {
     let mut window = small_window();
     let mut entries = small_log();

@@ -9,8 +9,8 @@ use Rattle.timing.proofs.Cases.{Answer, answer_of}
 use Rattle.timing.specs.Bands.{row}
 use Rattle.timing.specs.declared.Band.{Band}
 use Rattle.timing.specs.declared.Shape.TheVariants.{Equal, Double}
-use Rattle.bands.specs.Bands.{accepted, settled, shapedIn, in_row, byFound, timingBy}
-use Rattle.bands.specs.Table.{bandsIn}
+use Rattle.bands.specs.Bands.{accepted, settled, shaped_in, in_row, by_found, timing_by}
+use Rattle.bands.specs.Table.{bands_in}
 
 abbrev pub two : List Band
 two = row 50000 1000000 32 1000000 250000 Equal ∷ row 200000 4000000 200 2000000 800000 Double ∷ []
@@ -40,10 +40,10 @@ cases =
     ∷ by level 9 0 (Answer.refused 16)
     ∷ []
 
-pub worked : map (λ (c : Case). answer_of (timingBy c.table c.clock c.frequency)) cases ≡ map (λ (c : Case). c.answer) cases
-unfolding timingBy byFound accepted in_row shapedIn settled put_of with_bits
+pub worked : map (λ (c : Case). answer_of (timing_by c.table c.clock c.frequency)) cases ≡ map (λ (c : Case). c.answer) cases
+unfolding timing_by by_found accepted in_row shaped_in settled put_of with_bits
 worked = refl
 
-pub as_bytes : bandsIn (bytes_of (50000 ∷ 1000000 ∷ 32 ∷ 1000000 ∷ 250000 ∷ 0 ∷ 200000 ∷ 4000000 ∷ 200 ∷ 2000000 ∷ 800000 ∷ 1 ∷ [])) ≡ two
-unfolding bandsIn words_in
+pub as_bytes : bands_in (bytes_of (50000 ∷ 1000000 ∷ 32 ∷ 1000000 ∷ 250000 ∷ 0 ∷ 200000 ∷ 4000000 ∷ 200 ∷ 2000000 ∷ 800000 ∷ 1 ∷ [])) ≡ two
+unfolding bands_in words_in
 as_bytes = refl

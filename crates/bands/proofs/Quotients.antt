@@ -3,16 +3,16 @@ use mathlib.Core.Path.{refl}
 use Prim.Native.Nat.{ℕ, ◌+◌, ◌-◌, ◌*◌, ◌/◌, ◌≤◌, ◌<◌}
 use native.Mathlib.Nat.{le-div_iff_mul-le, div-lt_iff_lt-mul, div-mul-le_self, lt-div-mul-add, mul-le-mul_left}
 use native.Mathlib.Omega.{arith}
-use Rattle.timing.specs.Bands.{dividerOf}
+use Rattle.timing.specs.Bands.{divider_of}
 use Rattle.bands.specs.Bounds.{Divider}
 
-pub quot-ge : (k r p : ℕ) → 1 ≤ p → k * p ≤ r → k ≤ r / p
-quot-ge k r p h l = (le-div_iff_mul-le h).1 l
+pub quot_ge : (k r p : ℕ) → 1 ≤ p → k * p ≤ r → k ≤ r / p
+quot_ge k r p h l = (le-div_iff_mul-le h).1 l
 
-pub quot-lt : (k r p : ℕ) → 1 ≤ p → r < k * p → r / p < k
-quot-lt k r p h l = (div-lt_iff_lt-mul h).1 l
+pub quot_lt : (k r p : ℕ) → 1 ≤ p → r < k * p → r / p < k
+quot_lt k r p h l = (div-lt_iff_lt-mul h).1 l
 
-pub divides : (r d : ℕ) → 4 ≤ r → 8 ≤ d → d ≤ 256 → Divider r d (dividerOf r d)
+pub divides : (r d : ℕ) → 4 ≤ r → 8 ≤ d → d ≤ 256 → Divider r d (divider_of r d)
 divides r d h l m =
     record { is = refl; some = omega arith; few = omega (arith, f₁, f₂); enough = omega (arith, f₃, f₄) }
   where
@@ -32,8 +32,8 @@ divides r d h l m =
     f₄ = mul-le-mul_left q m
 
 -- how many steps a cycle has
-pub least-steps : {r p : ℕ} → 1 ≤ p → 4 * p ≤ r → 4 ≤ r / p
-least-steps {r} {p} h l = quot-ge 4 r p h l
+pub least_steps : {r p : ℕ} → 1 ≤ p → 4 * p ≤ r → 4 ≤ r / p
+least_steps {r} {p} h l = quot_ge 4 r p h l
 
-pub most-steps : {r d p : ℕ} → Divider r d p → r / p ≤ 256
-most-steps {r} {d} {p} u = omega (arith, quot-lt 257 r p u.some (omega arith))
+pub most_steps : {r d p : ℕ} → Divider r d p → r / p ≤ 256
+most_steps {r} {d} {p} u = omega (arith, quot_lt 257 r p u.some (omega arith))

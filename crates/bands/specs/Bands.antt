@@ -2,7 +2,7 @@
 -- upper frequency, least clock, d, the divisors of SDADEL and SCLDEL, and its shape. All divisions are whole. Document 01's own rule
 -- is `timingOf` of the crate `timing`; with `fiveBands` the two are the same. Assumes nothing.
 use Rattle.std.specs.Prelude.{ℕ, ◌+◌, ◌-◌, ◌*◌, ◌/◌, min, Bool, true, cond, ◌&&◌, ◌||◌, List, [], ◌∷◌, ◌++◌, eqb, leb, ltb, length}
-use Rattle.timing.specs.Bands.{bands, above, dividerOf, fields_of}
+use Rattle.timing.specs.Bands.{bands, above, divider_of, fields_of}
 use Rattle.timing.specs.declared.Band.{Band}
 use Rattle.timing.specs.declared.Shape.{Shape}
 use Rattle.timing.specs.declared.Shape.TheVariants.{Equal, Double}
@@ -19,40 +19,40 @@ use Rattle.bands.specs.declared.Found.TheVariants.{Row, Above}
 abbrev pub sound : Band → Bool
 sound b = leb 8 b.d && (leb b.d 256 && (leb 1 b.sdadel && leb 1 b.scldel))
 
-abbrev pub allSound : List Band → Bool
-allSound [] = true
-allSound (b ∷ bs) = sound b && allSound bs
+abbrev pub all_sound : List Band → Bool
+all_sound [] = true
+all_sound (b ∷ bs) = sound b && all_sound bs
 
 -- each upper frequency is above the one before it
-abbrev pub risingAbove : ℕ → List Band → Bool
-risingAbove last [] = true
-risingAbove last (b ∷ bs) = ltb last b.upper && risingAbove b.upper bs
+abbrev pub rising_above : ℕ → List Band → Bool
+rising_above last [] = true
+rising_above last (b ∷ bs) = ltb last b.upper && rising_above b.upper bs
 
 abbrev pub rising : List Band → Bool
 rising [] = true
-rising (b ∷ bs) = risingAbove b.upper bs
+rising (b ∷ bs) = rising_above b.upper bs
 
 unfoldable pub accepted : List Band → Bool
-accepted bs = leb 1 (length bs) && (leb (length bs) 16 && (allSound bs && rising bs))
+accepted bs = leb 1 (length bs) && (leb (length bs) 16 && (all_sound bs && rising bs))
 
-unfoldable pub loadedOf : List Band → Loaded
-loadedOf bs = cond (accepted bs) Accepted (NotLoaded BadBands)
+unfoldable pub loaded_of : List Band → Loaded
+loaded_of bs = cond (accepted bs) Accepted (NotLoaded BadBands)
 
 -- ---- The timing in a row, for a cycle of r clocks
 
 -- which p: held to 16 in an equal row
-abbrev pub heldIn : Shape → ℕ → ℕ
-heldIn Equal p = min 16 p
-heldIn Double p = p
+abbrev pub held_in : Shape → ℕ → ℕ
+held_in Equal p = min 16 p
+held_in Double p = p
 
 -- the high and the low part of a cycle of c steps
-abbrev pub highIn : Shape → ℕ → ℕ
-highIn Equal c = (c - 2) / 2
-highIn Double c = (c - 3) / 3
+abbrev pub high_in : Shape → ℕ → ℕ
+high_in Equal c = (c - 2) / 2
+high_in Double c = (c - 3) / 3
 
-abbrev pub lowIn : Shape → ℕ → ℕ
-lowIn Equal c = (c - 2) / 2
-lowIn Double c = 2 * (highIn Double c + 1) - 1
+abbrev pub low_in : Shape → ℕ → ℕ
+low_in Equal c = (c - 2) / 2
+low_in Double c = 2 * (high_in Double c + 1) - 1
 
 -- Refused as 6 where no setup time is left.
 unfoldable pub settled : ℕ → Band → ℕ → ℕ → ℕ → Timed
@@ -61,43 +61,43 @@ settled clock b p sclh scll =
     (Timing (fields_of clock b p sclh scll))
 
 -- Refused as 5 where p or a part of the cycle does not fit its field.
-unfoldable pub shapedIn : Shape → ℕ → ℕ → Band → Timed
-shapedIn s clock r b =
-    let p = heldIn s (dividerOf r b.d) in
-    let high = highIn s (r / p) in
-    let low = lowIn s (r / p) in
+unfoldable pub shaped_in : Shape → ℕ → ℕ → Band → Timed
+shaped_in s clock r b =
+    let p = held_in s (divider_of r b.d) in
+    let high = high_in s (r / p) in
+    let low = low_in s (r / p) in
     cond (ltb 16 p || (ltb 255 high || ltb 255 low)) (Refused SpeedLow)
     (settled clock b p high low)
 
 unfoldable pub in_row : ℕ → ℕ → Band → Timed
-in_row clock r b = cond (ltb clock b.least) (Refused ClockSlow) (shapedIn b.shape clock r b)
+in_row clock r b = cond (ltb clock b.least) (Refused ClockSlow) (shaped_in b.shape clock r b)
 
 -- ---- The timing by a table
 
 -- the first row that the frequency does not exceed
-abbrev pub bandFor : ℕ → List Band → Found
-bandFor frequency [] = Above
-bandFor frequency (b ∷ bs) = cond (leb frequency b.upper) (Row b) (bandFor frequency bs)
+abbrev pub band_for : ℕ → List Band → Found
+band_for frequency [] = Above
+band_for frequency (b ∷ bs) = cond (leb frequency b.upper) (Row b) (band_for frequency bs)
 
-abbrev pub byRow : ℕ → ℕ → Band → Timed
-byRow clock frequency b = cond (ltb (clock / frequency) 4) (Refused Ratio) (in_row clock (clock / frequency) b)
+abbrev pub by_row : ℕ → ℕ → Band → Timed
+by_row clock frequency b = cond (ltb (clock / frequency) 4) (Refused Ratio) (in_row clock (clock / frequency) b)
 
 -- the row that was found, or 17
-abbrev pub inFound : ℕ → ℕ → Found → Timed
-inFound clock frequency (Row b) = byRow clock frequency b
-inFound clock frequency Above = Refused NoBand
+abbrev pub in_found : ℕ → ℕ → Found → Timed
+in_found clock frequency (Row b) = by_row clock frequency b
+in_found clock frequency Above = Refused NoBand
 
 -- 1 and 2 before 17, and the others after it
-unfoldable pub byFound : ℕ → ℕ → Found → Timed
-byFound clock frequency found =
+unfoldable pub by_found : ℕ → ℕ → Found → Timed
+by_found clock frequency found =
     cond (eqb frequency 0) (Refused NoSpeed)
     (cond (ltb 250000000 clock) (Refused ClockOver)
-    (inFound clock frequency found))
+    (in_found clock frequency found))
 
 -- and 16 before all of them
-unfoldable pub timingBy : List Band → ℕ → ℕ → Timed
-timingBy bs clock frequency = cond (accepted bs) (byFound clock frequency (bandFor frequency bs)) (Refused BadBands)
+unfoldable pub timing_by : List Band → ℕ → ℕ → Timed
+timing_by bs clock frequency = cond (accepted bs) (by_found clock frequency (band_for frequency bs)) (Refused BadBands)
 
 -- Document 01's table, its last row ending at 4,294,967,295.
-abbrev pub fiveBands : List Band
-fiveBands = bands ++ (above ∷ [])
+abbrev pub five_bands : List Band
+five_bands = bands ++ (above ∷ [])

@@ -11,12 +11,12 @@ abbrev pub shape_of : ℕ → Shape
 shape_of n = cond (eqb n 0) Equal Double
 
 -- the row that bytes begin with, and the first n rows
-abbrev pub bandIn : List ℕ → Band
-bandIn bytes = row (word_at bytes 0) (word_at bytes 1) (word_at bytes 2) (word_at bytes 3) (word_at bytes 4) (shape_of (word_at bytes 5))
+abbrev pub band_in : List ℕ → Band
+band_in bytes = row (word_at bytes 0) (word_at bytes 1) (word_at bytes 2) (word_at bytes 3) (word_at bytes 4) (shape_of (word_at bytes 5))
 
-abbrev pub bandsFrom : ℕ → List ℕ → List Band
-bandsFrom zero bytes = []
-bandsFrom (suc n) bytes = bandIn bytes ∷ bandsFrom n (drop 24 bytes)
+abbrev pub bands_from : ℕ → List ℕ → List Band
+bands_from zero bytes = []
+bands_from (suc n) bytes = band_in bytes ∷ bands_from n (drop 24 bytes)
 
 -- each of n rows names one of the two shapes
 abbrev pub named : ℕ → List ℕ → Bool
@@ -24,19 +24,19 @@ named zero bytes = true
 named (suc n) bytes = leb (word_at bytes 5) 1 && named n (drop 24 bytes)
 
 -- Bytes that are not whole rows, or that name another shape, hold no row, and are refused as a table without one.
-unfoldable pub bandsIn : List ℕ → List Band
-bandsIn bytes =
+unfoldable pub bands_in : List ℕ → List Band
+bands_in bytes =
     let n = length bytes / 24 in
-    cond (eqb (length bytes % 24) 0 && named n bytes) (bandsFrom n bytes) []
+    cond (eqb (length bytes % 24) 0 && named n bytes) (bands_from n bytes) []
 
 -- The bytes of rows: what a maker writes so that `bandsIn` gives the rows.
-abbrev pub shapeNumber : Shape → ℕ
-shapeNumber Equal = 0
-shapeNumber Double = 1
+abbrev pub shape_number : Shape → ℕ
+shape_number Equal = 0
+shape_number Double = 1
 
-abbrev pub rowWords : Band → List ℕ
-rowWords b = b.upper ∷ b.least ∷ b.d ∷ b.sdadel ∷ b.scldel ∷ shapeNumber b.shape ∷ []
+abbrev pub row_words : Band → List ℕ
+row_words b = b.upper ∷ b.least ∷ b.d ∷ b.sdadel ∷ b.scldel ∷ shape_number b.shape ∷ []
 
 abbrev pub table_of : List Band → List ℕ
 table_of [] = []
-table_of (b ∷ bs) = bytes_of (rowWords b) ++ table_of bs
+table_of (b ∷ bs) = bytes_of (row_words b) ++ table_of bs

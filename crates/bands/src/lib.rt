@@ -1,10 +1,10 @@
 // The timing of a bus from a kernel clock and a bus frequency, by rows of speed bands: document 01's five, or a table that a board's maker
 // supplies (document 02, R-4). Every table, clock and frequency has an answer, which is a numbered refusal where no timing is right.
 ghost use Rattle.std.specs.Prelude.{◌≡◌, ◌-◌, ◌/◌, ◌≤◌, length};
-ghost use Rattle.timing.specs.Bands.{row, bandOf, held, fields_of, timingOf};
-ghost use Rattle.bands.specs.Bands.{sound, bandFor, accepted, loadedOf, settled, shapedIn, in_row, byRow, byFound, timingBy};
-ghost use Rattle.bands.specs.Bounds.{Sound, SoundIn, Divider, Capped, rowStands, rowsStand};
-ghost use Rattle.bands.specs.Table.{shape_of, bandIn, bandsFrom, bandsIn};
+ghost use Rattle.timing.specs.Bands.{row, band_of, held, fields_of, timing_of};
+ghost use Rattle.bands.specs.Bands.{sound, band_for, accepted, loaded_of, settled, shaped_in, in_row, by_row, by_found, timing_by};
+ghost use Rattle.bands.specs.Bounds.{Sound, SoundIn, Divider, Capped, row_stands, rows_stand};
+ghost use Rattle.bands.specs.Table.{shape_of, band_in, bands_from, bands_in};
 
 use timing::{Band, I2cTiming, Shape, Timed, TimingRefusal};
 
@@ -116,7 +116,7 @@ fn capped(r: u32, d: u32) -> u32
 fn equal(clock: u32, r: u32, b: Band) -> Timed
     requires sound { Sound b }
     requires le_r { 4 ≤ r }
-    ensures { result ≡ shapedIn Shape.Equal clock r b }
+    ensures { result ≡ shaped_in Shape.Equal clock r b }
 {
     let p = capped(r, b.d);
     let half = (r / p - 2) / 2;
@@ -130,7 +130,7 @@ fn equal(clock: u32, r: u32, b: Band) -> Timed
 fn double(clock: u32, r: u32, b: Band) -> Timed
     requires sound { Sound b }
     requires le_r { 4 ≤ r }
-    ensures { result ≡ shapedIn Shape.Double clock r b }
+    ensures { result ≡ shaped_in Shape.Double clock r b }
 {
     let p = divider(r, b.d);
     if p > 16 {
@@ -160,7 +160,7 @@ fn in_row(clock: u32, r: u32, b: Band) -> Timed
 fn by_row(clock: u32, frequency: u32, b: Band) -> Timed
     requires sound { Sound b }
     requires le_frequency { 1 ≤ frequency }
-    ensures { result ≡ byRow clock frequency b }
+    ensures { result ≡ by_row clock frequency b }
 {
     let r = clock / frequency;
     if r < 4 {
@@ -171,7 +171,7 @@ fn by_row(clock: u32, frequency: u32, b: Band) -> Timed
 
 // Document 01's row of a frequency.
 fn band_of(frequency: u32) -> Band
-    ensures { result ≡ bandOf frequency }
+    ensures { result ≡ band_of frequency }
 {
     if frequency <= 7_999 {
         return row_of(7_999, 2_000_000, 256, 2_000_000, 500_000, Shape::Equal);
@@ -198,7 +198,7 @@ fn band_of(frequency: u32) -> Band
 // What is refused before any row, then the row that was found.
 fn by_found(clock: u32, frequency: u32, found: Found) -> Timed
     requires { SoundIn found }
-    ensures { result ≡ byFound clock frequency found }
+    ensures { result ≡ by_found clock frequency found }
 {
     if frequency == 0 {
         return Timed::Refused(TimingRefusal::NoSpeed);
@@ -214,7 +214,7 @@ fn by_found(clock: u32, frequency: u32, found: Found) -> Timed
 
 // The timing of a bus at `frequency` from a kernel clock of `clock`, both in hertz, by document 01's bands.
 pub fn calc_timing_params(clock: u32, frequency: u32) -> Timed
-    ensures { result ≡ timingOf clock frequency }
+    ensures { result ≡ timing_of clock frequency }
 {
     by_found(clock, frequency, Found::Row(band_of(frequency)))
 }
@@ -227,7 +227,7 @@ fn shape_of(n: u32) -> Shape
 
 // The row that bytes begin with.
 fn first(rows: &[u8]) -> Band
-    ensures { result ≡ bandIn rows.now }
+    ensures { result ≡ band_in rows.now }
 {
     row_of(
         words::get(rows, 0),
@@ -259,7 +259,7 @@ fn is_sound(b: Band) -> bool
 
 // Whether the row that bytes begin with names a shape and is sound.
 fn stands(rows: &[u8]) -> bool
-    ensures { result ≡ rowStands rows.now }
+    ensures { result ≡ row_stands rows.now }
 {
     let shape = words::get(rows, 5);
     if shape > 1 {
@@ -270,7 +270,7 @@ fn stands(rows: &[u8]) -> bool
 
 // Whether rows may follow one with the upper frequency `last`.
 fn stand_above(last: u32, rows: &[u8]) -> bool
-    ensures { result ≡ rowsStand last (length rows.now / 24) rows.now }
+    ensures { result ≡ rows_stand last (length rows.now / 24) rows.now }
 {
     let mut last = last;
     let mut rest = rows;
@@ -290,7 +290,7 @@ fn stand_above(last: u32, rows: &[u8]) -> bool
 
 // The first row has none before it.
 fn is_accepted(table: &[u8]) -> bool
-    ensures { result ≡ accepted (bandsIn table.now) }
+    ensures { result ≡ accepted (bands_in table.now) }
 {
     let n = table.len();
     if n < ROW {
@@ -310,7 +310,7 @@ fn is_accepted(table: &[u8]) -> bool
 
 // The first row that the frequency does not exceed.
 fn find(frequency: u32, table: &[u8]) -> Found
-    ensures { result ≡ bandFor frequency (bandsFrom (length table.now / 24) table.now) }
+    ensures { result ≡ band_for frequency (bands_from (length table.now / 24) table.now) }
 {
     let mut rest = table;
     while ROW <= rest.len() {
@@ -326,7 +326,7 @@ fn find(frequency: u32, table: &[u8]) -> Found
 // Looks at a table of speed bands: bytes, 24 to a row, which are six little-endian words. They are the row's upper frequency, least clock,
 // d, the divisors of SDADEL and SCLDEL, and 0 for an equal or 1 for a double row.
 pub fn load(table: &[u8]) -> Loaded
-    ensures { result ≡ loadedOf (bandsIn table.now) }
+    ensures { result ≡ loaded_of (bands_in table.now) }
 {
     if is_accepted(table) {
         return Loaded::Accepted;
@@ -336,7 +336,7 @@ pub fn load(table: &[u8]) -> Loaded
 
 // The timing of a bus at `frequency` from a kernel clock of `clock`, both in hertz, by a table. The table is looked at whole, every time.
 pub fn timing_by(table: &[u8], clock: u32, frequency: u32) -> Timed
-    ensures { result ≡ timingBy (bandsIn table.now) clock frequency }
+    ensures { result ≡ timing_by (bands_in table.now) clock frequency }
 {
     if !is_accepted(table) {
         return Timed::Refused(TimingRefusal::BadBands);

@@ -4,23 +4,23 @@ use Prim.Native.Nat.{ℕ, ◌/◌, ◌%◌}
 use Prim.Native.String.{String}
 use mathlib.Core.Path.{◌≡◌, refl}
 use mathlib.Core.List.{List, [], ◌∷◌, ◌++◌, map}
-use Rattle.benchfile.specs.Calls.{plain, hasArgument, argumentWrong, listMisfit, transactionWrong, headWrong, callWrong, headDescription, operationsOf, wholeBuffer}
-use Rattle.benchfile.specs.File.{rowWrong, rowsWrong, tableWrong, wordsWrong, sizeWrong}
+use Rattle.benchfile.specs.Calls.{plain, has_argument, argument_wrong, list_misfit, transaction_wrong, head_wrong, call_wrong, head_description, operations_of, whole_buffer}
+use Rattle.benchfile.specs.File.{row_wrong, rows_wrong, table_wrong, words_wrong, size_wrong}
 use Rattle.words.specs.Words.{words_in}
-use Rattle.calls.specs.Calls.{is_call, isKind, manual}
-use Rattle.calls.specs.Pieces.{piecesFor}
-use Rattle.calls.specs.Refusals.{lookupOf, verdictOf, checkOf, groupTaken, accepts}
-use Rattle.calls.specs.Run.{uncutOf, begunOf, advanceFrom, run_of}
-use Rattle.calls.specs.Steps.{accessOf, after_of, beginOf}
-use Rattle.calls.specs.Words.{cr2Of, timingrOf, oar1Of, oar2Of, alterOf}
-use Rattle.fields.specs.Field.{bits_at, with_bits, getOf, put_of}
-use Rattle.lines.specs.Lines.{callLine, accessLine, accessLines, logText, bytesText, bufferLine}
+use Rattle.calls.specs.Calls.{is_call, is_kind, manual}
+use Rattle.calls.specs.Pieces.{pieces_for}
+use Rattle.calls.specs.Refusals.{lookup_of, verdict_of, check_of, group_taken, accepts}
+use Rattle.calls.specs.Run.{uncut_of, begun_of, advance_from, run_of}
+use Rattle.calls.specs.Steps.{access_of, after_of, begin_of}
+use Rattle.calls.specs.Words.{cr2_of, timingr_of, oar1_of, oar2_of, alter_of}
+use Rattle.fields.specs.Field.{bits_at, with_bits, get_of, put_of}
+use Rattle.lines.specs.Lines.{call_line, access_line, access_lines, log_text, bytes_text, buffer_line}
 use Rattle.lines.specs.declared.Form.TheVariants.{Lines, Page}
-use Rattle.numerals.specs.Numbers.{hexDigitOf, spelledOf, significantOf}
-use Rattle.page.specs.Page.{accessOf as coded, filled, head_of, lines_from, entryLines, lines_of, text_of}
-use Rattle.page.specs.Tokens.{flagTokens, numberTokens, bitTokens, tokensBelow}
+use Rattle.numerals.specs.Numbers.{hex_digit_of, spelled_of, significant_of}
+use Rattle.page.specs.Page.{access_of as coded, filled, head_of, lines_from, entry_lines, lines_of, text_of}
+use Rattle.page.specs.Tokens.{flag_tokens, number_tokens, bit_tokens, tokens_below}
 use Rattle.window.specs.Codes.{codes}
-use Rattle.bench.specs.Text.{showsBuffer, callsText, wordsText, fileText}
+use Rattle.bench.specs.Text.{shows_buffer, calls_text, words_text, file_text}
 
 abbrev bytes : List ℕ → List ℕ
 bytes [] = []
@@ -42,8 +42,8 @@ page =
     ∷ "000009 write ICR     00000020 STOPCF"
     ∷ []
 
-document-run : (fileText Lines file ≡
+document_run : (file_text Lines file ≡
     codes "7 done 0 5 9\nw 04 020220A0\nr 18 00000001\nr 04 020200A0\nr 18 00000003\nw 28 00000012\nr 18 00000003\nw 28 00000034\nr 18 00000021\nw 1C 00000020\nb 1234\n")
-    × (fileText Page file ≡ codes "7 done 0 5 9\n" ++ text_of (map (λ (s : String). filled 80 (codes s)) page) ++ codes "b 1234\n")
-unfolding fileText wordsText callsText showsBuffer sizeWrong wordsWrong tableWrong rowsWrong rowWrong words_in plain hasArgument argumentWrong listMisfit transactionWrong headWrong callWrong headDescription operationsOf wholeBuffer callLine accessLine accessLines logText bytesText bufferLine hexDigitOf spelledOf significantOf bits_at with_bits getOf put_of is_call isKind manual piecesFor lookupOf verdictOf checkOf groupTaken accepts uncutOf begunOf advanceFrom run_of accessOf after_of beginOf cr2Of timingrOf oar1Of oar2Of alterOf lines_of entryLines coded head_of lines_from text_of tokensBelow bitTokens flagTokens numberTokens
-document-run = (refl, refl)
+    × (file_text Page file ≡ codes "7 done 0 5 9\n" ++ text_of (map (λ (s : String). filled 80 (codes s)) page) ++ codes "b 1234\n")
+unfolding file_text words_text calls_text shows_buffer size_wrong words_wrong table_wrong rows_wrong row_wrong words_in plain has_argument argument_wrong list_misfit transaction_wrong head_wrong call_wrong head_description operations_of whole_buffer call_line access_line access_lines log_text bytes_text buffer_line hex_digit_of spelled_of significant_of bits_at with_bits get_of put_of is_call is_kind manual pieces_for lookup_of verdict_of check_of group_taken accepts uncut_of begun_of advance_from run_of access_of after_of begin_of cr2_of timingr_of oar1_of oar2_of alter_of lines_of entry_lines coded head_of lines_from text_of tokens_below bit_tokens flag_tokens number_tokens
+document_run = (refl, refl)

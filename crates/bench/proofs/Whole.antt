@@ -8,10 +8,10 @@ use lib.Dec.{T}
 use lib.ListN.{length, get_or, take, drop, length-take, length-drop}
 use lib.Seq.{take_all}
 use borrow.Author.Tests.{ltb-false}
-use Rattle.benchfile.specs.Calls.{plain, headDescription, operationsOf, lentBuffer}
-use Rattle.benchfile.specs.File.{bodySize, sizeWrong}
-use Rattle.words.proofs.Turns.{in_words, decoded-words}
-use Rattle.words.specs.Words.{words_in, asDecoded, decodedOf}
+use Rattle.benchfile.specs.Calls.{plain, head_description, operations_of, lent_buffer}
+use Rattle.benchfile.specs.File.{body_size, size_wrong}
+use Rattle.words.proofs.Turns.{in_words, decoded_words}
+use Rattle.words.specs.Words.{words_in, as_decoded, decoded_of}
 use Rattle.calls.proofs.Ends.{whole_run}
 use Rattle.drive.specs.Drive.{places}
 use Rattle.bench.specs.Text.{CallsWhole, EveryWhole}
@@ -20,30 +20,30 @@ neither : (a b : Bool) → (a || b) ≡ false → a ≡ false
 neither true b h = absurd (subst T h tt)
 neither false b h = refl
 
-few_words : (file : List ℕ) → sizeWrong (length file) ≡ false → length (words_in file) ≤ 16384
-unfolding sizeWrong
+few_words : (file : List ℕ) → size_wrong (length file) ≡ false → length (words_in file) ≤ 16384
+unfolding size_wrong
 few_words file h =
     let l : length file ≤ 65536 = ltb-false 65536 (length file) (neither _ _ h) in
     rw (in_words file) (omega arith)
 
 -- so a room of 16,384 words takes all
-pub all_words : (file words : List ℕ) (n : ℕ) (words' : List ℕ) → sizeWrong (length file) ≡ false → length words ≡ 16384 →
-    asDecoded n words' ≡ decodedOf 0 file words → take n words' ≡ words_in file
+pub all_words : (file words : List ℕ) (n : ℕ) (words' : List ℕ) → size_wrong (length file) ≡ false → length words ≡ 16384 →
+    as_decoded n words' ≡ decoded_of 0 file words → take n words' ≡ words_in file
 all_words file words n words' h z e =
-    decoded-words 0 file words n words' e ∙ take_all (length words) (words_in file) (rw z (few_words file h))
+    decoded_words 0 file words n words' e ∙ take_all (length words) (words_in file) (rw z (few_words file h))
 
-calls-whole : (n : ℕ) (rows bodies : List ℕ) → length bodies ≤ 16384 → CallsWhole n rows bodies
-calls-whole zero rows bodies h = tt
-calls-whole (suc n) rows bodies h =
+calls_whole : (n : ℕ) (rows bodies : List ℕ) → length bodies ≤ 16384 → CallsWhole n rows bodies
+calls_whole zero rows bodies h = tt
+calls_whole (suc n) rows bodies h =
     let head : List ℕ = take (get_or rows 2 0) bodies in
     let l : List ℕ = take (get_or rows 3 0) (drop (get_or rows 2 0) bodies) in
     let few : length l ≤ 16384 = simp (length-take, length-drop) (omega arith) in (
-      whole_run (headDescription (get_or rows 0 0) (get_or rows 1 0) head) (operationsOf (get_or rows 0 0) head) places
-          (lentBuffer (plain (get_or rows 0 0)) (get_or rows 1 0) head) l (omega arith),
-      calls-whole n (drop 4 rows) (drop (bodySize rows) bodies) (simp length-drop (omega arith)),
+      whole_run (head_description (get_or rows 0 0) (get_or rows 1 0) head) (operations_of (get_or rows 0 0) head) places
+          (lent_buffer (plain (get_or rows 0 0)) (get_or rows 1 0) head) l (omega arith),
+      calls_whole n (drop 4 rows) (drop (body_size rows) bodies) (simp length-drop (omega arith)),
     )
 
-pub every-whole : (file : List ℕ) → EveryWhole file
-every-whole file h =
-    calls-whole (get_or (words_in file) 0 0) (drop 1 (words_in file)) (drop (4 * get_or (words_in file) 0 0) (drop 1 (words_in file)))
+pub every_whole : (file : List ℕ) → EveryWhole file
+every_whole file h =
+    calls_whole (get_or (words_in file) 0 0) (drop 1 (words_in file)) (drop (4 * get_or (words_in file) 0 0) (drop 1 (words_in file)))
     (simp length-drop (omega (arith, few_words file (neither _ _ h))))

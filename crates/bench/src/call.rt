@@ -1,11 +1,11 @@
 // The text of one call: its line, its accesses, its buffer.
 ghost use Rattle.std.specs.Prelude.{◌≡◌, cond, not, ◌&&◌, [], length};
-ghost use Rattle.benchfile.specs.Calls.{lentBuffer};
-ghost use Rattle.calls.specs.Advances.{isRefusal};
-ghost use Rattle.drive.specs.Drive.{runFor};
-ghost use Rattle.lines.specs.Lines.{bufferLine};
-ghost use Rattle.window.specs.Window.{laid, emitOf};
-ghost use Rattle.bench.specs.Text.{showsBuffer, runText, toldBy, callText, runIn};
+ghost use Rattle.benchfile.specs.Calls.{lent_buffer};
+ghost use Rattle.calls.specs.Advances.{is_refusal};
+ghost use Rattle.drive.specs.Drive.{run_for};
+ghost use Rattle.lines.specs.Lines.{buffer_line};
+ghost use Rattle.window.specs.Window.{laid, emit_of};
+ghost use Rattle.bench.specs.Text.{shows_buffer, run_text, told_by, call_text, run_in};
 
 use calls::{Description, Report};
 use kinds::report;
@@ -28,14 +28,14 @@ fn room() -> [u8; 65536]
 }
 
 fn shows_buffer(n: u32) -> bool
-    ensures { result ≡ showsBuffer n }
+    ensures { result ≡ shows_buffer n }
 {
     (n == 7) | ((n == 9) | (n == 11))
 }
 
 // The buffer after the call, where its line is printed.
 fn put_buffer(p: Cursor, n: u32, r: Report, buffer: &[u8], out: &mut [u8]) -> Cursor
-    ensures { laid result out.new ≡ emitOf (cond (showsBuffer n && not (isRefusal r)) (bufferLine buffer.now) []) (laid p out.old) }
+    ensures { laid result out.new ≡ emit_of (cond (shows_buffer n && not (is_refusal r)) (buffer_line buffer.now) []) (laid p out.old) }
 {
     if shows_buffer(n) & !report::is_refusal(r) {
         return lines::put_buffer(p, buffer, out);
@@ -45,7 +45,7 @@ fn put_buffer(p: Cursor, n: u32, r: Report, buffer: &[u8], out: &mut [u8]) -> Cu
 
 // The call is driven for what its line says; its text goes nowhere.
 fn tell(d: Description, ops: &[u32], buffer: &mut [u8], answers: &[u32]) -> Told
-    ensures { result ≡ toldBy (runFor d ops.now buffer.old answers.now) }
+    ensures { result ≡ told_by (run_for d ops.now buffer.old answers.now) }
 {
     let mut nowhere = [0u8; 1];
     let t = drive::drive(
@@ -77,7 +77,7 @@ fn show(
     answers: &[u32],
     out: &mut [u8],
 ) -> Cursor
-    ensures { laid result out.new ≡ emitOf (runText form n (runFor d ops.now buffer.old answers.now)) (laid p out.old) }
+    ensures { laid result out.new ≡ emit_of (run_text form n (run_for d ops.now buffer.old answers.now)) (laid p out.old) }
 {
     let t = drive::drive(p, form, d, ops, buffer, answers, out);
     let far = t.advanced;
@@ -88,7 +88,7 @@ fn show(
 
 // Each of the two gets the buffer as the file gives it.
 fn tell_call(n: u32, a: u32, head: &[u32], d: Description, ops: &[u32], answers: &[u32]) -> Told
-    ensures { result ≡ toldBy (runFor d ops.now (lentBuffer n a head.now) answers.now) }
+    ensures { result ≡ told_by (run_for d ops.now (lent_buffer n a head.now) answers.now) }
 {
     let mut buffer = room();
     let size = benchfile::lay(n, a, head, &mut buffer);
@@ -106,7 +106,7 @@ fn show_call(
     answers: &[u32],
     out: &mut [u8],
 ) -> Cursor
-    ensures { laid result out.new ≡ emitOf (runText form n (runFor d ops.now (lentBuffer n a head.now) answers.now)) (laid p out.old) }
+    ensures { laid result out.new ≡ emit_of (run_text form n (run_for d ops.now (lent_buffer n a head.now) answers.now)) (laid p out.old) }
 {
     let mut buffer = room();
     let size = benchfile::lay(n, a, head, &mut buffer);
@@ -122,7 +122,7 @@ pub fn put_call(
     answers: &[u32],
     out: &mut [u8],
 ) -> Cursor
-    ensures { laid result out.new ≡ emitOf (callText form n (runIn n a head.now answers.now)) (laid p out.old) }
+    ensures { laid result out.new ≡ emit_of (call_text form n (run_in n a head.now answers.now)) (laid p out.old) }
 {
     let like = benchfile::plain(n);
     let d = benchfile::describe(n, a, head);

@@ -1,7 +1,7 @@
 // The text of a file: of its calls in turn, or that it is none.
 ghost use Rattle.std.specs.Prelude.{◌≡◌, length};
-ghost use Rattle.window.specs.Window.{laid, emitOf};
-ghost use Rattle.bench.specs.Text.{rowText, callsText, tableText, wordsText, fileText};
+ghost use Rattle.window.specs.Window.{laid, emit_of};
+ghost use Rattle.bench.specs.Text.{row_text, calls_text, table_text, words_text, file_text};
 
 use crate::call::put_call;
 use benchfile::{after, body_size, first, word};
@@ -13,7 +13,7 @@ const WORDS: usize = 16384;
 
 // The call of a table's first row, its body first in `bodies`.
 fn put_row(p: Cursor, form: Form, rows: &[u32], bodies: &[u32], out: &mut [u8]) -> Cursor
-    ensures { laid result out.new ≡ emitOf (rowText form rows.now bodies.now) (laid p out.old) }
+    ensures { laid result out.new ≡ emit_of (row_text form rows.now bodies.now) (laid p out.old) }
 {
     let n = word(rows, 0);
     let a = word(rows, 1);
@@ -31,7 +31,7 @@ fn put_row(p: Cursor, form: Form, rows: &[u32], bodies: &[u32], out: &mut [u8]) 
 }
 
 fn put_calls(p: Cursor, form: Form, n: u32, rows: &[u32], bodies: &[u32], out: &mut [u8]) -> Cursor
-    ensures { laid result out.new ≡ emitOf (callsText form n rows.now bodies.now) (laid p out.old) }
+    ensures { laid result out.new ≡ emit_of (calls_text form n rows.now bodies.now) (laid p out.old) }
 {
     let mut q = p;
     let mut left = n;
@@ -49,13 +49,13 @@ fn put_calls(p: Cursor, form: Form, n: u32, rows: &[u32], bodies: &[u32], out: &
 }
 
 fn put_table(p: Cursor, form: Form, n: u32, words: &[u32], out: &mut [u8]) -> Cursor
-    ensures { laid result out.new ≡ emitOf (tableText form n words.now) (laid p out.old) }
+    ensures { laid result out.new ≡ emit_of (table_text form n words.now) (laid p out.old) }
 {
     put_calls(p, form, n, words, after(words, 4 * n as usize), out)
 }
 
 fn put_words(p: Cursor, form: Form, words: &[u32], out: &mut [u8]) -> Cursor
-    ensures { laid result out.new ≡ emitOf (wordsText form words.now) (laid p out.old) }
+    ensures { laid result out.new ≡ emit_of (words_text form words.now) (laid p out.old) }
 {
     if benchfile::is_wrong(words) {
         return lines::put_refusal(p, out);
@@ -70,7 +70,7 @@ fn room() -> [u32; WORDS]
 }
 
 pub fn put_file(p: Cursor, form: Form, file: &[u8], out: &mut [u8]) -> Cursor
-    ensures { laid result out.new ≡ emitOf (fileText form file.now) (laid p out.old) }
+    ensures { laid result out.new ≡ emit_of (file_text form file.now) (laid p out.old) }
 {
     if benchfile::is_size_wrong(file.len()) {
         return lines::put_refusal(p, out);

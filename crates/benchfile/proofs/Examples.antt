@@ -4,9 +4,9 @@ use mathlib.Core.Path.{◌≡◌, refl}
 use mathlib.Core.Bool.{true, false}
 use mathlib.Core.List.{List, [], ◌∷◌, ◌++◌, map}
 use lib.ListN.{replicate}
-use Rattle.fields.specs.Field.{getOf, bits_at}
-use Rattle.benchfile.specs.Calls.{plain, hasArgument, argumentWrong, listMisfit, transactionWrong, configWrong, headWrong, callWrong, operationsOf, wholeBuffer, lentBuffer}
-use Rattle.benchfile.specs.File.{rowWrong, rowsWrong, tableWrong, wordsWrong}
+use Rattle.fields.specs.Field.{get_of, bits_at}
+use Rattle.benchfile.specs.Calls.{plain, has_argument, argument_wrong, list_misfit, transaction_wrong, config_wrong, head_wrong, call_wrong, operations_of, whole_buffer, lent_buffer}
+use Rattle.benchfile.specs.File.{row_wrong, rows_wrong, table_wrong, words_wrong}
 use Rattle.words.specs.Words.{words_in}
 
 -- document 01's run
@@ -17,12 +17,12 @@ run = 1 ∷ 7 ∷ 0x50 ∷ 4 ∷ 5 ∷ 1 ∷ 2 ∷ 0x12 ∷ 0x34 ∷ 1 ∷ 0x020
 lists : List ℕ
 lists = 3 ∷ 2 ∷ 0x10003 ∷ 1 ∷ 0x12 ∷ 0x34 ∷ 0x56 ∷ []
 
-buffer : lentBuffer 7 0x50 lists ≡ 0x12 ∷ 0x34 ∷ 0 ∷ 0 ∷ 0 ∷ 0x56 ∷ []
-unfolding lists wholeBuffer getOf bits_at
+buffer : lent_buffer 7 0x50 lists ≡ 0x12 ∷ 0x34 ∷ 0 ∷ 0 ∷ 0 ∷ 0x56 ∷ []
+unfolding lists whole_buffer get_of bits_at
 buffer = refl
 
-operations : operationsOf 7 lists ≡ 2 ∷ 0x10003 ∷ 1 ∷ []
-unfolding lists operationsOf
+operations : operations_of 7 lists ≡ 2 ∷ 0x10003 ∷ 1 ∷ []
+unfolding lists operations_of
 operations = refl
 
 words : words_in (1 ∷ 2 ∷ 3 ∷ 4 ∷ 0xA0 ∷ 0 ∷ 2 ∷ 2 ∷ []) ≡ 0x04030201 ∷ 0x020200A0 ∷ []
@@ -39,6 +39,6 @@ wrong =
     [] ∷ (1 ∷ 6 ∷ 0 ∷ 0 ∷ []) ∷ (0 ∷ 0 ∷ []) ∷ (1 ∷ 8 ∷ 1 ∷ 0 ∷ 0 ∷ []) ∷ (1 ∷ 10 ∷ 0 ∷ 1 ∷ 0 ∷ 256 ∷ [])
     ∷ (1 ∷ 3 ∷ 0 ∷ 4 ∷ 0 ∷ 1 ∷ 2 ∷ 0 ∷ 0 ∷ []) ∷ (1 ∷ 30 ∷ 0 ∷ 1 ∷ 0 ∷ 0 ∷ []) ∷ []
 
-told-apart : map wordsWrong (right ++ wrong) ≡ replicate 5 false ++ replicate 7 true
-unfolding run right wrong wordsWrong tableWrong rowsWrong rowWrong callWrong plain argumentWrong hasArgument headWrong transactionWrong listMisfit configWrong getOf bits_at
-told-apart = refl
+told_apart : map words_wrong (right ++ wrong) ≡ replicate 5 false ++ replicate 7 true
+unfolding run right wrong words_wrong table_wrong rows_wrong row_wrong call_wrong plain argument_wrong has_argument head_wrong transaction_wrong list_misfit config_wrong get_of bits_at
+told_apart = refl

@@ -1,7 +1,7 @@
 // The buffer of a call, laid out and cut to the room that there is.
 ghost use Rattle.std.specs.Prelude.{◌≡◌};
-ghost use Rattle.window.specs.Window.{asShown, windowOf, laid, emitOf};
-ghost use Rattle.benchfile.specs.Calls.{low_bytes, operationBytes, operationsBytes, afterList, wholeBuffer};
+ghost use Rattle.window.specs.Window.{as_shown, window_of, laid, emit_of};
+ghost use Rattle.benchfile.specs.Calls.{low_bytes, operation_bytes, operations_bytes, after_list, whole_buffer};
 
 use crate::head;
 use crate::part::{after, first, word};
@@ -9,7 +9,7 @@ use kinds::operation;
 use window::Cursor;
 
 fn put_bytes(p: Cursor, words: &[u32], out: &mut [u8]) -> Cursor
-    ensures { laid result out.new ≡ emitOf (low_bytes words.now) (laid p out.old) }
+    ensures { laid result out.new ≡ emit_of (low_bytes words.now) (laid p out.old) }
 {
     let mut q = p;
     for i in 0..words.len() {
@@ -21,7 +21,7 @@ fn put_bytes(p: Cursor, words: &[u32], out: &mut [u8]) -> Cursor
 // The bytes of an operation: zeros, or the first of those that are written.
 fn put_operation(p: Cursor, o: u32, bytes: &[u32], out: &mut [u8]) -> Cursor
     ensures { laid result out.new
-        ≡ emitOf (operationBytes o (low_bytes bytes.now)) (laid p out.old) }
+        ≡ emit_of (operation_bytes o (low_bytes bytes.now)) (laid p out.old) }
 {
     let size = operation::length(o) as usize;
     if operation::is_read(o) {
@@ -32,7 +32,7 @@ fn put_operation(p: Cursor, o: u32, bytes: &[u32], out: &mut [u8]) -> Cursor
 
 fn put_operations(p: Cursor, ops: &[u32], bytes: &[u32], out: &mut [u8]) -> Cursor
     ensures { laid result out.new
-        ≡ emitOf (operationsBytes ops.now (low_bytes bytes.now)) (laid p out.old) }
+        ≡ emit_of (operations_bytes ops.now (low_bytes bytes.now)) (laid p out.old) }
 {
     let mut q = p;
     let mut rest = bytes;
@@ -46,14 +46,14 @@ fn put_operations(p: Cursor, ops: &[u32], bytes: &[u32], out: &mut [u8]) -> Curs
 
 // The words of a transaction's head after its list.
 fn after_list(head: &[u32]) -> &[u32]
-    ensures { result.now ≡ afterList head.now }
+    ensures { result.now ≡ after_list head.now }
 {
     after(after(head, 1), word(head, 0) as usize)
 }
 
 fn put_buffer(p: Cursor, n: u32, a: u32, head: &[u32], out: &mut [u8]) -> Cursor
     ensures { laid result out.new
-        ≡ emitOf (wholeBuffer n a head.now) (laid p out.old) }
+        ≡ emit_of (whole_buffer n a head.now) (laid p out.old) }
 {
     if n == 7 {
         return put_operations(p, head::list(head), after_list(head), out);
@@ -69,7 +69,7 @@ fn put_buffer(p: Cursor, n: u32, a: u32, head: &[u32], out: &mut [u8]) -> Cursor
 
 // Lays out the buffer of a call that is read like n, as far as there is room, and says how many bytes it has.
 pub fn lay(n: u32, a: u32, head: &[u32], out: &mut [u8]) -> usize
-    ensures { asShown result out.new ≡ windowOf 0 (wholeBuffer n a head.now) out.old }
+    ensures { as_shown result out.new ≡ window_of 0 (whole_buffer n a head.now) out.old }
 {
     let p = put_buffer(Cursor::new(0), n, a, head, out);
     p.at

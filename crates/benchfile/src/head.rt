@@ -1,9 +1,9 @@
 // A call's number, argument and head words: whether they fit, and what they describe.
 ghost use Rattle.std.specs.Prelude.{◌≡◌, eqb};
 ghost use Rattle.benchfile.specs.Calls.{plain as Calls·plain};
-ghost use Rattle.benchfile.specs.Calls.{hasArgument, argumentWrong, anyWide, writeSize, writeBytes, listMisfit};
-ghost use Rattle.benchfile.specs.Calls.{transactionWrong, configWrong, headWrong, callWrong};
-ghost use Rattle.benchfile.specs.Calls.{configurationIn, configFrom, headDescription, listIn, operationsOf};
+ghost use Rattle.benchfile.specs.Calls.{has_argument, argument_wrong, any_wide, write_size, write_bytes, list_misfit};
+ghost use Rattle.benchfile.specs.Calls.{transaction_wrong, config_wrong, head_wrong, call_wrong};
+ghost use Rattle.benchfile.specs.Calls.{configuration_in, config_from, head_description, list_in, operations_of};
 
 use crate::part::{after, first, word};
 use calls::{Configuration, Description};
@@ -21,13 +21,13 @@ pub fn plain(n: u32) -> u32
 }
 
 fn has_argument(n: u32) -> bool
-    ensures { result ≡ hasArgument n }
+    ensures { result ≡ has_argument n }
 {
     (n == 4) | ((n == 5) | ((n == 9) | (n == 11)))
 }
 
 fn is_argument_wrong(n: u32, a: u32) -> bool
-    ensures { result ≡ argumentWrong n a }
+    ensures { result ≡ argument_wrong n a }
 {
     if n == 7 {
         return a > 131_071;
@@ -36,7 +36,7 @@ fn is_argument_wrong(n: u32, a: u32) -> bool
 }
 
 fn has_wide(words: &[u32]) -> bool
-    ensures { result ≡ anyWide words.now }
+    ensures { result ≡ any_wide words.now }
 {
     for i in 0..words.len() {
         if words[i] > 255 {
@@ -47,7 +47,7 @@ fn has_wide(words: &[u32]) -> bool
 }
 
 pub fn write_size(o: u32) -> usize
-    ensures { result ≡ writeSize o }
+    ensures { result ≡ write_size o }
 {
     if operation::is_read(o) {
         0
@@ -58,7 +58,7 @@ pub fn write_size(o: u32) -> usize
 
 // Whether the writes of a list have just n bytes: counted down, so that no sum needs a bound.
 fn has_write_bytes(ops: &[u32], n: usize) -> bool
-    ensures { result ≡ eqb n (writeBytes ops.now) }
+    ensures { result ≡ eqb n (write_bytes ops.now) }
 {
     let mut left = n;
     for i in 0..ops.len() {
@@ -73,26 +73,26 @@ fn has_write_bytes(ops: &[u32], n: usize) -> bool
 
 // The words after the count k.
 fn is_list_wrong(k: usize, words: &[u32]) -> bool
-    ensures { result ≡ listMisfit k words.now }
+    ensures { result ≡ list_misfit k words.now }
 {
     let bytes = after(words, k);
     (words.len() < k) | (!has_write_bytes(first(words, k), bytes.len()) | has_wide(bytes))
 }
 
 fn is_transaction_wrong(head: &[u32]) -> bool
-    ensures { result ≡ transactionWrong head.now }
+    ensures { result ≡ transaction_wrong head.now }
 {
     (head.len() == 0) | is_list_wrong(word(head, 0) as usize, after(head, 1))
 }
 
 fn is_config_wrong(size: usize, i: usize, head: &[u32]) -> bool
-    ensures { result ≡ configWrong size i head.now }
+    ensures { result ≡ config_wrong size i head.now }
 {
     (head.len() != size) | (word(head, i) > 1)
 }
 
 fn is_head_wrong(n: u32, head: &[u32]) -> bool
-    ensures { result ≡ headWrong n head.now }
+    ensures { result ≡ head_wrong n head.now }
 {
     match n {
         7 => is_transaction_wrong(head),
@@ -106,7 +106,7 @@ fn is_head_wrong(n: u32, head: &[u32]) -> bool
 }
 
 pub fn is_call_wrong(n: u32, a: u32, head: &[u32]) -> bool
-    ensures { result ≡ callWrong n a head.now }
+    ensures { result ≡ call_wrong n a head.now }
 {
     let like = plain(n);
     is_argument_wrong(like, a) | is_head_wrong(like, head)
@@ -114,7 +114,7 @@ pub fn is_call_wrong(n: u32, a: u32, head: &[u32]) -> bool
 
 // Own address, mode, secondary address and mask.
 fn config(words: &[u32]) -> Configuration
-    ensures { result ≡ configurationIn words.now }
+    ensures { result ≡ configuration_in words.now }
 {
     if words.len() == 4 {
         let config = address_words::config(
@@ -129,13 +129,13 @@ fn config(words: &[u32]) -> Configuration
 }
 
 fn config_from(n: u32) -> usize
-    ensures { result ≡ configFrom n }
+    ensures { result ≡ config_from n }
 {
     if n == 3 { 0 } else { 1 }
 }
 
 pub fn describe(n: u32, a: u32, head: &[u32]) -> Description
-    ensures { result ≡ headDescription n a head.now }
+    ensures { result ≡ head_description n a head.now }
 {
     Description {
         call: n,
@@ -149,13 +149,13 @@ pub fn describe(n: u32, a: u32, head: &[u32]) -> Description
 
 // The list of a transaction's head.
 pub fn list(head: &[u32]) -> &[u32]
-    ensures { result.now ≡ listIn head.now }
+    ensures { result.now ≡ list_in head.now }
 {
     first(after(head, 1), word(head, 0) as usize)
 }
 
 pub fn operations(n: u32, head: &[u32]) -> &[u32]
-    ensures { result.now ≡ operationsOf n head.now }
+    ensures { result.now ≡ operations_of n head.now }
 {
     if n == 7 { list(head) } else { first(head, 0) }
 }

@@ -1,33 +1,33 @@
 // A file's table of contents and its bodies.
 ghost use Rattle.std.specs.Prelude.{◌≡◌};
-ghost use Rattle.benchfile.specs.File.{bodySize, rowWrong, rowsWrong, tableWrong, wordsWrong, sizeWrong};
+ghost use Rattle.benchfile.specs.File.{body_size, row_wrong, rows_wrong, table_wrong, words_wrong, size_wrong};
 
 use crate::head::is_call_wrong;
 use crate::part::{after, first, word};
 
 pub fn is_size_wrong(bytes: usize) -> bool
-    ensures { result ≡ sizeWrong bytes }
+    ensures { result ≡ size_wrong bytes }
 {
     (bytes > 65_536) | (bytes % 4 != 0)
 }
 
 // How many words the body of a row's call has.
 pub fn body_size(row: &[u32]) -> usize
-    ensures { result ≡ bodySize row.now }
+    ensures { result ≡ body_size row.now }
 {
     word(row, 2) as usize + word(row, 3) as usize
 }
 
 // Whether the bodies are too short for the first row, or its call is wrong.
 fn is_row_wrong(row: &[u32], bodies: &[u32]) -> bool
-    ensures { result ≡ rowWrong row.now bodies.now }
+    ensures { result ≡ row_wrong row.now bodies.now }
 {
     let head = first(bodies, word(row, 2) as usize);
     (bodies.len() < body_size(row)) | is_call_wrong(word(row, 0), word(row, 1), head)
 }
 
 fn is_rows_wrong(n: usize, rows: &[u32], bodies: &[u32]) -> bool
-    ensures { result ≡ rowsWrong n rows.now bodies.now }
+    ensures { result ≡ rows_wrong n rows.now bodies.now }
 {
     let mut left = n;
     let mut table = rows;
@@ -47,7 +47,7 @@ fn is_rows_wrong(n: usize, rows: &[u32], bodies: &[u32]) -> bool
 }
 
 fn is_table_wrong(n: usize, words: &[u32]) -> bool
-    ensures { result ≡ tableWrong n words.now }
+    ensures { result ≡ table_wrong n words.now }
 {
     if n > 64 {
         return true;
@@ -58,7 +58,7 @@ fn is_table_wrong(n: usize, words: &[u32]) -> bool
 
 // Whether a file's words are no bench file.
 pub fn is_wrong(words: &[u32]) -> bool
-    ensures { result ≡ wordsWrong words.now }
+    ensures { result ≡ words_wrong words.now }
 {
     (words.len() == 0) | is_table_wrong(word(words, 0) as usize, after(words, 1))
 }

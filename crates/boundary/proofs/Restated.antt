@@ -7,16 +7,16 @@ use mathlib.Core.List.{List, [], ◌∷◌, ◌++◌}
 use lib.Dec.{T, eqb, ltb, leb, ltb→lt, lt→ltb, lit<, leb-zero}
 use lib.ListN.{length, get_or, drop}
 use borrow.Author.Tests.{eq-eqb, lt-ltb, lt-leb}
-use Rattle.words.proofs.Turns.{in_words, length-bytes}
-use Rattle.calls.proofs.Every.{every-step}
+use Rattle.words.proofs.Turns.{in_words, length_bytes}
+use Rattle.calls.proofs.Every.{every_step}
 use Rattle.calls.proofs.Joined.{within}
 use Rattle.calls.proofs.Logic.{is_true, is_false}
 use Rattle.calls.specs.Advances.{given}
 use Rattle.calls.specs.Calls.{transaction, manual, receives, transmits}
-use Rattle.calls.specs.Outcomes.{waitingNumber, refusedNumber, refusalNumber, outcomeNumber, reportNumber, awaitedOf}
-use Rattle.calls.specs.Refusals.{checkOf, listWrong, bufferWrong}
-use Rattle.calls.specs.Run.{Entry, words_of, noCall, Run}
-use Rattle.calls.specs.Steps.{beginOf, stepNumber}
+use Rattle.calls.specs.Outcomes.{waiting_number, refused_number, refusal_number, outcome_number, report_number, awaited_of}
+use Rattle.calls.specs.Refusals.{check_of, list_wrong, buffer_wrong}
+use Rattle.calls.specs.Run.{Entry, words_of, no_call, Run}
+use Rattle.calls.specs.Steps.{begin_of, step_number}
 use Rattle.calls.specs.declared.Call.{Call}
 use Rattle.calls.specs.declared.Next.{Next}
 use Rattle.calls.specs.declared.Next.TheVariants as next
@@ -30,37 +30,37 @@ use Rattle.calls.specs.declared.Step.{Step}
 use Rattle.calls.specs.declared.Verdict.{Verdict}
 use Rattle.calls.specs.declared.Verdict.TheVariants.{Accepted, Refused as Rejected}
 use Rattle.driver.proofs.CameBack.{CameBack}
-use Rattle.driver.specs.Next.{nextFor}
-use Rattle.fields.specs.Field.{place, getOf, put_of, with_bits}
-use Rattle.page.proofs.Promised.{page-promises}
-use Rattle.page.specs.Page.{lines_of, text_of, page_of, faultFrom, faultOf, pageIn}
+use Rattle.driver.specs.Next.{next_for}
+use Rattle.fields.specs.Field.{place, get_of, put_of, with_bits}
+use Rattle.page.proofs.Promised.{page_promises}
+use Rattle.page.specs.Page.{lines_of, text_of, page_of, fault_from, fault_of, page_in}
 use Rattle.page.specs.Promises.{EachKnown}
 use Rattle.page.specs.declared.Page.{Page}
 use Rattle.page.specs.declared.Page.TheVariants.{Laid, Refused as NotLaid}
 use Rattle.registers.specs.Map.{offset_of}
 use Rattle.registers.specs.declared.Register.{Register}
-use Rattle.saved.specs.Saved.{savedLength, savedBytes, savedIn, writtenTo}
-use Rattle.bands.proofs.Promised.{band-promises}
-use Rattle.bands.specs.Bands.{accepted, loadedOf, timingBy, fiveBands}
+use Rattle.saved.specs.Saved.{saved_length, saved_bytes, saved_in, written_to}
+use Rattle.bands.proofs.Promised.{band_promises}
+use Rattle.bands.specs.Bands.{accepted, loaded_of, timing_by, five_bands}
 use Rattle.bands.specs.Promises.{Rule}
-use Rattle.bands.specs.Table.{bandsIn}
+use Rattle.bands.specs.Table.{bands_in}
 use Rattle.timing.specs.declared.Band.{Band}
-use Rattle.timing.proofs.Round.{Within, packs, unpack-pack, pack-unpack}
-use Rattle.timing.specs.Bands.{timingOf, bandOf, inBandOf, equalAt, doubleAt}
-use Rattle.timing.specs.Refusals.{timingRefusalNumber as timingNumber}
-use Rattle.timing.specs.Timingr.{timingrWord, packOf, unpackOf}
+use Rattle.timing.proofs.Round.{Within, packs, unpack_pack, pack_unpack}
+use Rattle.timing.specs.Bands.{timing_of, band_of, in_band_of, equal_at, double_at}
+use Rattle.timing.specs.Refusals.{timing_refusal_number as timingNumber}
+use Rattle.timing.specs.Timingr.{timingr_word, pack_of, unpack_of}
 use Rattle.timing.specs.declared.I2cTiming.{I2cTiming}
 use Rattle.timing.specs.declared.TimingRefusal as timing-refusal
 use Rattle.timing.specs.declared.Timed.TheVariants.{Timing, Refused as NotTimed}
 use Rattle.words.specs.Words.{Below, words_in, bytes_of}
 use Rattle.boundary.specs.Abi.{AbiLeft}
-use Rattle.boundary.specs.Calls.{descriptionOf, operationsIn, accessAnswer, numbersOf, answerFor}
-use Rattle.boundary.specs.Demand.{BoundaryBegin, BoundaryAdvance, saysRefused, answer_of, requestIn}
-use Rattle.boundary.specs.Page.{PageLeft, asPageLeft, pageLeft}
-use Rattle.boundary.specs.Timing.{packedAnswer, timedAnswer, timingIn, fields_of}
+use Rattle.boundary.specs.Calls.{description_of, operations_in, access_answer, numbers_of, answer_for}
+use Rattle.boundary.specs.Demand.{BoundaryBegin, BoundaryAdvance, says_refused, answer_of, request_in}
+use Rattle.boundary.specs.Page.{PageLeft, as_page_left, page_left}
+use Rattle.boundary.specs.Timing.{packed_answer, timed_answer, timing_in, fields_of}
 use Rattle.boundary.specs.declared.TimingAnswer.{TimingAnswer}
 use Rattle.boundary.specs.declared.call.AccessAnswer.{AccessAnswer}
-use Rattle.boundary.proofs.Demand.{runIn, said, stopped, saved-length, written-here, begin-said, positive, BeginCall, beginning, AdvanceCall, advancing}
+use Rattle.boundary.proofs.Demand.{run_in, said, stopped, saved_length_holds, written_here, begin_said, positive, BeginCall, beginning, AdvanceCall, advancing}
 use Rattle.boundary.specs.contracts.huskerivory_abi as abi
 use Rattle.boundary.proofs.huskerivory_abi.Reads as abi-reads
 use Rattle.boundary.specs.contracts.huskerivory_load_bands as load
@@ -78,31 +78,31 @@ use Rattle.boundary.proofs.huskerivory_timing.Reads as timing-reads
 use Rattle.boundary.specs.contracts.huskerivory_unpack as unpack
 use Rattle.boundary.proofs.huskerivory_unpack.Reads as unpack-reads
 
-no-and : (a b : Bool) → b ≡ false → (a && b) ≡ false
-no-and true b e = e
-no-and false b e = refl
+no_and : (a b : Bool) → b ≡ false → (a && b) ≡ false
+no_and true b e = e
+no_and false b e = refl
 
 or_right : (a b : Bool) → T b → T (a || b)
 or_right true b h = tt
 or_right false b h = h
 
-outcome-below : (o : Outcome) → outcomeNumber o < 13
-outcome-below (Done n) = lit< tt
-outcome-below Bus = lit< tt
-outcome-below Arbitration = lit< tt
-outcome-below Nack = lit< tt
-outcome-below Stopped = lit< tt
-outcome-below ExpectedWrite = lit< tt
-outcome-below ExpectedRead = lit< tt
-outcome-below (EventRead n) = lit< tt
-outcome-below (EventWrite n) = lit< tt
-outcome-below EventStop = lit< tt
+outcome_below : (o : Outcome) → outcome_number o < 13
+outcome_below (Done n) = lit< tt
+outcome_below Bus = lit< tt
+outcome_below Arbitration = lit< tt
+outcome_below Nack = lit< tt
+outcome_below Stopped = lit< tt
+outcome_below ExpectedWrite = lit< tt
+outcome_below ExpectedRead = lit< tt
+outcome_below (EventRead n) = lit< tt
+outcome_below (EventWrite n) = lit< tt
+outcome_below EventStop = lit< tt
 
-report-below : (r : Report) → reportNumber r < 13
-report-below (Over o) = outcome-below o
-report-below Full = lit< tt
-report-below (Waiting k) = lit< tt
-report-below (Refused r) = lit< tt
+report_below : (r : Report) → report_number r < 13
+report_below (Over o) = outcome_below o
+report_below Full = lit< tt
+report_below (Waiting k) = lit< tt
+report_below (Refused r) = lit< tt
 
 -- ---- what a caller compares: the version and the sizes, and what each size is the size of
 abbrev AbiCall : Type 0
@@ -112,32 +112,32 @@ module _ (C : AbiCall) where
   abbrev sizes : List ℕ
   sizes = (let (sizes, _) = C.left in sizes.now)
 
-  same-sizes : sizes ≡ 64 ∷ 36 ∷ 32 ∷ 8 ∷ 64 ∷ 65535 ∷ 13 ∷ 46 ∷ []
-  same-sizes = ap (λ (A : AbiLeft). A.sizes) C.contract
+  same_sizes : sizes ≡ 64 ∷ 36 ∷ 32 ∷ 8 ∷ 64 ∷ 65535 ∷ 13 ∷ 46 ∷ []
+  same_sizes = ap (λ (A : AbiLeft). A.sizes) C.contract
 
-  abi-version : C.gave ≡ 3
-  abi-version = ap (λ (A : AbiLeft). A.version) C.contract
+  abi_version : C.gave ≡ 3
+  abi_version = ap (λ (A : AbiLeft). A.version) C.contract
 
-  abi-saved : (s : SavedCall) → length (savedBytes s) ≡ get_or sizes 1 0
-  abi-saved s = saved-length s ∙ rw same-sizes
+  abi_saved : (s : SavedCall) → length (saved_bytes s) ≡ get_or sizes 1 0
+  abi_saved s = saved_length_holds s ∙ rw same_sizes
 
-  abi-answer : (r : Report) (used written : ℕ) → 8 * length (numbersOf (answerFor r used written)) ≡ get_or sizes 2 0
-  abi-answer r used written = rw same-sizes
+  abi_answer : (r : Report) (used written : ℕ) → 8 * length (numbers_of (answer_for r used written)) ≡ get_or sizes 2 0
+  abi_answer r used written = rw same_sizes
 
-  abi-entry : (e : Entry) → length (bytes_of (words_of (e ∷ []))) ≡ get_or sizes 3 0
-  abi-entry e = length-bytes (words_of (e ∷ [])) ∙ rw same-sizes
+  abi_entry : (e : Entry) → length (bytes_of (words_of (e ∷ []))) ≡ get_or sizes 3 0
+  abi_entry e = length_bytes (words_of (e ∷ [])) ∙ rw same_sizes
 
-  abi-operations : (c : Call) (ops : List ℕ) (n : ℕ) → T (transaction c) → get_or sizes 4 0 < length ops → listWrong c ops n ≡ true
-  abi-operations c ops n t h = rw (is_true (transaction c) t, lt-ltb 64 (length ops) (rw same-sizes at h))
+  abi_operations : (c : Call) (ops : List ℕ) (n : ℕ) → T (transaction c) → get_or sizes 4 0 < length ops → list_wrong c ops n ≡ true
+  abi_operations c ops n t h = rw (is_true (transaction c) t, lt-ltb 64 (length ops) (rw same_sizes at h))
 
-  abi-buffer : (c : Call) (n : ℕ) → get_or sizes 5 0 < n → T (bufferWrong c n)
-  abi-buffer c n h = or_right (((receives c || transmits c) && not (manual c)) && eqb n 0) (ltb 65535 n) (lt→ltb _ _ (rw same-sizes at h))
+  abi_buffer : (c : Call) (n : ℕ) → get_or sizes 5 0 < n → T (buffer_wrong c n)
+  abi_buffer c n h = or_right (((receives c || transmits c) && not (manual c)) && eqb n 0) (ltb 65535 n) (lt→ltb _ _ (rw same_sizes at h))
 
-  abi-reports : (r : Report) → reportNumber r < get_or sizes 6 0
-  abi-reports r = rw same-sizes (report-below r)
+  abi_reports : (r : Report) → report_number r < get_or sizes 6 0
+  abi_reports r = rw same_sizes (report_below r)
 
-  abi-steps : (t : Step) → stepNumber t < get_or sizes 7 0
-  abi-steps t = rw same-sizes (ltb→lt (stepNumber t) 46 (every-step (λ u. ltb (stepNumber u) 46) tt t))
+  abi_steps : (t : Step) → step_number t < get_or sizes 7 0
+  abi_steps t = rw same_sizes (ltb→lt (step_number t) 46 (every_step (λ u. ltb (step_number u) 46) tt t))
 
 -- ---- the timing: its word, or its refusal's number and no word
 abbrev TimingCall : Type 0
@@ -146,64 +146,64 @@ TimingCall = CameBack timing.ended timing-reads.Post
 abbrev timed : TimingCall → TimingAnswer
 timed C = (let (_, (_, (timingr, _))) = C.left in record { refusal = C.gave; timingr = timingr.now })
 
-timing-word : (C : TimingCall) (t : I2cTiming) → let (clock, (frequency, _)) = C.given in
-    timingOf clock frequency ≡ Timing t → timed C ≡ record { refusal = 0; timingr = timingrWord t }
-timing-word C t e = C.contract ∙ ap timedAnswer e
+timing_word : (C : TimingCall) (t : I2cTiming) → let (clock, (frequency, _)) = C.given in
+    timing_of clock frequency ≡ Timing t → timed C ≡ record { refusal = 0; timingr = timingr_word t }
+timing_word C t e = C.contract ∙ ap timed_answer e
 
-timing-refused : (C : TimingCall) (why : timing-refusal.TimingRefusal) → let (clock, (frequency, _)) = C.given in
-    timingOf clock frequency ≡ NotTimed why → timed C ≡ record { refusal = timingNumber why; timingr = 0 }
-timing-refused C why e = C.contract ∙ ap timedAnswer e
+timing_refused : (C : TimingCall) (why : timing-refusal.TimingRefusal) → let (clock, (frequency, _)) = C.given in
+    timing_of clock frequency ≡ NotTimed why → timed C ≡ record { refusal = timingNumber why; timingr = 0 }
+timing_refused C why e = C.contract ∙ ap timed_answer e
 
-timing-400-kHz : (C : TimingCall) → let (clock, (frequency, _)) = C.given in
+timing_400_k_hz : (C : TimingCall) → let (clock, (frequency, _)) = C.given in
     clock ≡ 250000000 → frequency ≡ 400000 → timed C ≡ record { refusal = 0; timingr = 0x60FB1C39 }
-unfolding timingOf bandOf inBandOf equalAt doubleAt put_of with_bits
-timing-400-kHz C e f = C.contract ∙ rw (e, f)
+unfolding timing_of band_of in_band_of equal_at double_at put_of with_bits
+timing_400_k_hz C e f = C.contract ∙ rw (e, f)
 
 -- ---- a board's own bands: 0 or 16 on loading, and a timing's word, or its refusal's number and no word
 abbrev LoadCall : Type 0
 LoadCall = CameBack load.ended load-reads.Post
 
 module _ (C : LoadCall) where
-  abbrev looked-at : List Band
-  looked-at = (let (bytes, _) = C.given in bandsIn bytes.now)
+  abbrev looked_at : List Band
+  looked_at = (let (bytes, _) = C.given in bands_in bytes.now)
 
-  bands-loaded : Rule looked-at → C.gave ≡ 0
-  unfolding loadedOf
-  bands-loaded R = C.contract ∙ rw (band-promises.accepts looked-at R)
+  bands_loaded : Rule looked_at → C.gave ≡ 0
+  unfolding loaded_of
+  bands_loaded R = C.contract ∙ rw (band_promises.accepts looked_at R)
 
-  bands-not-loaded : accepted looked-at ≡ false → C.gave ≡ 16
-  unfolding loadedOf
-  bands-not-loaded e = C.contract ∙ rw e
+  bands_not_loaded : accepted looked_at ≡ false → C.gave ≡ 16
+  unfolding loaded_of
+  bands_not_loaded e = C.contract ∙ rw e
 
 abbrev BandsCall : Type 0
 BandsCall = CameBack by-bands.ended by-bands-reads.Post
 
 module _ (C : BandsCall) where
-  abbrev lent-bands : List Band
-  lent-bands = (let (bytes, _) = C.given in bandsIn bytes.now)
+  abbrev lent_bands : List Band
+  lent_bands = (let (bytes, _) = C.given in bands_in bytes.now)
 
-  abbrev timed-by : TimingAnswer
-  timed-by = (let (_, (_, (_, (timingr, _)))) = C.left in record { refusal = C.gave; timingr = timingr.now })
+  abbrev timed_by : TimingAnswer
+  timed_by = (let (_, (_, (_, (timingr, _)))) = C.left in record { refusal = C.gave; timingr = timingr.now })
 
-  bands-word : (t : I2cTiming) → let (_, (clock, (frequency, _))) = C.given in
-      timingBy lent-bands clock frequency ≡ Timing t → timed-by ≡ record { refusal = 0; timingr = timingrWord t }
-  bands-word t e = C.contract ∙ ap timedAnswer e
+  bands_word : (t : I2cTiming) → let (_, (clock, (frequency, _))) = C.given in
+      timing_by lent_bands clock frequency ≡ Timing t → timed_by ≡ record { refusal = 0; timingr = timingr_word t }
+  bands_word t e = C.contract ∙ ap timed_answer e
 
-  bands-refused : (why : timing-refusal.TimingRefusal) → let (_, (clock, (frequency, _))) = C.given in
-      timingBy lent-bands clock frequency ≡ NotTimed why → timed-by ≡ record { refusal = timingNumber why; timingr = 0 }
-  bands-refused why e = C.contract ∙ ap timedAnswer e
+  bands_refused : (why : timing-refusal.TimingRefusal) → let (_, (clock, (frequency, _))) = C.given in
+      timing_by lent_bands clock frequency ≡ NotTimed why → timed_by ≡ record { refusal = timingNumber why; timingr = 0 }
+  bands_refused why e = C.contract ∙ ap timed_answer e
 
   -- with document 01's five bands, what `huskerivory_timing` gives
-  bands-five : (D : TimingCall) → lent-bands ≡ fiveBands → let (_, (clock, (frequency, _))) = C.given in let (clock', (frequency', _)) = D.given in
-      clock ≡ clock' → frequency ≡ frequency' → frequency < 2 ^ 32 → timed-by ≡ timed D
-  bands-five D b e f h =
+  bands_five : (D : TimingCall) → lent_bands ≡ five_bands → let (_, (clock, (frequency, _))) = C.given in let (clock', (frequency', _)) = D.given in
+      clock ≡ clock' → frequency ≡ frequency' → frequency < 2 ^ 32 → timed_by ≡ timed D
+  bands_five D b e f h =
       let (_, (clock, (frequency, _))) = C.given in
       let (clock', (frequency', _)) = D.given in
       C.contract
-      ∙ ap (λ (bs : List Band). timedAnswer (timingBy bs clock frequency)) b
-      ∙ ap timedAnswer (band-promises.five clock frequency h)
-      ∙ ap (λ (c : ℕ). timedAnswer (timingOf c frequency)) e
-      ∙ ap (λ (g : ℕ). timedAnswer (timingOf clock' g)) f
+      ∙ ap (λ (bs : List Band). timed_answer (timing_by bs clock frequency)) b
+      ∙ ap timed_answer (band_promises.five clock frequency h)
+      ∙ ap (λ (c : ℕ). timed_answer (timing_of c frequency)) e
+      ∙ ap (λ (g : ℕ). timed_answer (timing_of clock' g)) f
       ∙ sym D.contract
 
 -- ---- packing and unpacking undo each other across the boundary, and a field of four bits takes no more than 15
@@ -226,33 +226,33 @@ module _ (P : PackCall) (presc scldel sdadel sclh scll : ℕ) (lent : fields P �
   abbrev t : I2cTiming
   t = record { presc = presc; scldel = scldel; sdadel = sdadel; sclh = sclh; scll = scll }
 
-  of_fields : packed P ≡ packedAnswer (packOf t)
-  of_fields = P.contract ∙ ap (λ (l : List ℕ). packedAnswer (packOf (timingIn l))) lent
+  of_fields : packed P ≡ packed_answer (pack_of t)
+  of_fields = P.contract ∙ ap (λ (l : List ℕ). packed_answer (pack_of (timing_in l))) lent
 
-  packed-unpacked : (U : UnpackCall) → presc < 16 → scldel < 16 → sdadel < 16 → sclh < 256 → scll < 256 → U.given.0 ≡ (packed P).timingr →
+  packed_unpacked : (U : UnpackCall) → presc < 16 → scldel < 16 → sdadel < 16 → sclh < 256 → scll < 256 → U.given.0 ≡ (packed P).timingr →
       ((packed P).refusal ≡ 0) × (unpacked U ≡ presc ∷ scldel ∷ sdadel ∷ sclh ∷ scll ∷ [])
-  packed-unpacked U a b c d e f =
+  packed_unpacked U a b c d e f =
       let w : Within t = record { presc = a; scldel = b; sdadel = c; sclh = d; scll = e } in
-      let said = of_fields ∙ ap packedAnswer (packs t w) in
-      let word : U.given.0 ≡ timingrWord t = f ∙ ap (λ (A : TimingAnswer). A.timingr) said in
-      (ap (λ (A : TimingAnswer). A.refusal) said, U.contract ∙ rw word (ap fields_of (unpack-pack t w)))
+      let said = of_fields ∙ ap packed_answer (packs t w) in
+      let word : U.given.0 ≡ timingr_word t = f ∙ ap (λ (A : TimingAnswer). A.timingr) said in
+      (ap (λ (A : TimingAnswer). A.refusal) said, U.contract ∙ rw word (ap fields_of (unpack_pack t w)))
 
-  pack-wide : (15 < presc → packed P ≡ record { refusal = 7; timingr = 0 }) × (15 < scldel → packed P ≡ record { refusal = 7; timingr = 0 })
+  pack_wide : (15 < presc → packed P ≡ record { refusal = 7; timingr = 0 }) × (15 < scldel → packed P ≡ record { refusal = 7; timingr = 0 })
       × (15 < sdadel → packed P ≡ record { refusal = 7; timingr = 0 })
-  unfolding packOf
-  pack-wide =
+  unfolding pack_of
+  pack_wide =
       let fits : Bool = leb presc 15 && (leb scldel 15 && leb sdadel 15) in
       let wide : fits ≡ false → packed P ≡ record { refusal = 7; timingr = 0 } = λ e. of_fields ∙ rw e in (
         λ h. wide (rw (lt-leb presc 15 h)),
-        λ h. wide (no-and (leb presc 15) _ (rw (lt-leb scldel 15 h))),
-        λ h. wide (no-and (leb presc 15) _ (no-and (leb scldel 15) _ (lt-leb sdadel 15 h))),
+        λ h. wide (no_and (leb presc 15) _ (rw (lt-leb scldel 15 h))),
+        λ h. wide (no_and (leb presc 15) _ (no_and (leb scldel 15) _ (lt-leb sdadel 15 h))),
       )
 
-unpacked-packed : (U : UnpackCall) (P : PackCall) → let w : ℕ = U.given.0 in
-    w < 2 ^ 32 → getOf w (place 24 4) ≡ 0 → fields P ≡ unpacked U → packed P ≡ record { refusal = 0; timingr = w }
-unpacked-packed U P a b e =
-    let u : fields P ≡ fields_of (unpackOf (record { 0 = U.given.0 })) = e ∙ U.contract in
-    P.contract ∙ ap (λ (l : List ℕ). packedAnswer (packOf (timingIn l))) u ∙ ap packedAnswer (pack-unpack (record { 0 = U.given.0 }) a b)
+unpacked_packed : (U : UnpackCall) (P : PackCall) → let w : ℕ = U.given.0 in
+    w < 2 ^ 32 → get_of w (place 24 4) ≡ 0 → fields P ≡ unpacked U → packed P ≡ record { refusal = 0; timingr = w }
+unpacked_packed U P a b e =
+    let u : fields P ≡ fields_of (unpack_of (record { 0 = U.given.0 })) = e ∙ U.contract in
+    P.contract ∙ ap (λ (l : List ℕ). packed_answer (pack_of (timing_in l))) u ∙ ap packed_answer (pack_unpack (record { 0 = U.given.0 }) a b)
 
 -- ---- begin: 0 and the begun call's bytes, or a refusal's number and the bytes that no advance takes; a place of another length
 -- is left as it was
@@ -261,78 +261,78 @@ module _ (B : BeginCall) where
   begin = beginning B
 
   abbrev verdict : Verdict
-  verdict = checkOf (descriptionOf begin.description) (operationsIn begin.operations) (length begin.buffer)
+  verdict = check_of (description_of begin.description) (operations_in begin.operations) (length begin.buffer)
 
-  begin-accepted : (c : Call) → verdict ≡ Accepted c → length begin.saved ≡ savedLength →
-      (begin.refusal ≡ 0) × (begin.savedLeft ≡ savedBytes (beginOf (requestIn begin c)))
-  begin-accepted c e l =
-      let s = begin-said begin (Accepted c) e in
-      (s.refusal ∙ rw (eq-eqb (length begin.saved) savedLength l), s.saved ∙ written-here begin.saved (beginOf (requestIn begin c)) l)
+  begin_accepted : (c : Call) → verdict ≡ Accepted c → length begin.saved ≡ saved_length →
+      (begin.refusal ≡ 0) × (begin.saved_left ≡ saved_bytes (begin_of (request_in begin c)))
+  begin_accepted c e l =
+      let s = begin_said begin (Accepted c) e in
+      (s.refusal ∙ rw (eq-eqb (length begin.saved) saved_length l), s.saved ∙ written_here begin.saved (begin_of (request_in begin c)) l)
 
-  begin-refused : (r : Refusal) → verdict ≡ Rejected r → length begin.saved ≡ savedLength →
-      (begin.refusal ≡ refusalNumber r) × (begin.savedLeft ≡ savedBytes noCall)
-  begin-refused r e l =
-      let s = begin-said begin (Rejected r) e in
-      (s.refusal, s.saved ∙ written-here begin.saved noCall l)
+  begin_refused : (r : Refusal) → verdict ≡ Rejected r → length begin.saved ≡ saved_length →
+      (begin.refusal ≡ refusal_number r) × (begin.saved_left ≡ saved_bytes no_call)
+  begin_refused r e l =
+      let s = begin_said begin (Rejected r) e in
+      (s.refusal, s.saved ∙ written_here begin.saved no_call l)
 
-  begin-elsewhere : T (not (eqb (length begin.saved) savedLength)) → (begin.savedLeft ≡ begin.saved) × (0 < begin.refusal)
-  unfolding writtenTo
-  begin-elsewhere h = go verdict refl
+  begin_elsewhere : T (not (eqb (length begin.saved) saved_length)) → (begin.saved_left ≡ begin.saved) × (0 < begin.refusal)
+  unfolding written_to
+  begin_elsewhere h = go verdict refl
     where
-      f : eqb (length begin.saved) savedLength ≡ false
-      f = is_false (eqb (length begin.saved) savedLength) h
+      f : eqb (length begin.saved) saved_length ≡ false
+      f = is_false (eqb (length begin.saved) saved_length) h
 
-      go : (v : Verdict) → verdict ≡ v → (begin.savedLeft ≡ begin.saved) × (0 < begin.refusal)
-      go (Accepted c) e = (let s = begin-said begin (Accepted c) e in (s.saved ∙ rw f, rw (s.refusal, f) (lit< tt)))
-      go (Rejected r) e = (let s = begin-said begin (Rejected r) e in (s.saved ∙ rw f, rw s.refusal (positive r)))
+      go : (v : Verdict) → verdict ≡ v → (begin.saved_left ≡ begin.saved) × (0 < begin.refusal)
+      go (Accepted c) e = (let s = begin_said begin (Accepted c) e in (s.saved ∙ rw f, rw (s.refusal, f) (lit< tt)))
+      go (Rejected r) e = (let s = begin_said begin (Rejected r) e in (s.saved ∙ rw f, rw s.refusal (positive r)))
 
 -- ---- one advance, whatever it was lent: it stays within its slices; a refused one uses nothing, writes nothing and leaves each
 -- byte; a waiting one names the register that the next access reads, and no other names one
-awaits-nothing : (r : Report) → T (not (eqb (reportNumber r) waitingNumber)) → awaitedOf r ≡ 0
-awaits-nothing (Over o) h = refl
-awaits-nothing Full h = refl
-awaits-nothing (Waiting k) h = absurd h
-awaits-nothing (Refused r) h = refl
+awaits_nothing : (r : Report) → T (not (eqb (report_number r) waiting_number)) → awaited_of r ≡ 0
+awaits_nothing (Over o) h = refl
+awaits_nothing Full h = refl
+awaits_nothing (Waiting k) h = absurd h
+awaits_nothing (Refused r) h = refl
 
 module _ (C : AdvanceCall) where
   abbrev advance : BoundaryAdvance
   advance = advancing C
 
   abbrev R : Run
-  R = runIn advance
+  R = run_in advance
 
-  advance-within : ((answer_of advance).written ≤ length advance.log / 8) × ((answer_of advance).used ≤ length advance.answers / 4)
-      × (length advance.bufferLeft ≡ length advance.buffer)
-  advance-within =
+  advance_within : ((answer_of advance).written ≤ length advance.log / 8) × ((answer_of advance).used ≤ length advance.answers / 4)
+      × (length advance.buffer_left ≡ length advance.buffer)
+  advance_within =
       let s = said advance in
-      let w = within (descriptionOf advance.description) (operationsIn advance.operations) (length advance.log / 8)
-      (savedIn advance.saved) advance.buffer (words_in advance.answers) in
+      let w = within (description_of advance.description) (operations_in advance.operations) (length advance.log / 8)
+      (saved_in advance.saved) advance.buffer (words_in advance.answers) in
       (rw s.written w.entries, rw (s.used, ← in_words advance.answers) w.used, ap length s.buffer ∙ w.buffer)
 
-  advance-refused : advance.report ≡ refusedNumber →
-      ((answer_of advance).used ≡ 0) × ((answer_of advance).written ≡ 0) × (advance.savedLeft ≡ advance.saved)
-      × (advance.bufferLeft ≡ advance.buffer) × (advance.logLeft ≡ advance.log)
-  advance-refused e =
+  advance_refused : advance.report ≡ refused_number →
+      ((answer_of advance).used ≡ 0) × ((answer_of advance).written ≡ 0) × (advance.saved_left ≡ advance.saved)
+      × (advance.buffer_left ≡ advance.buffer) × (advance.log_left ≡ advance.log)
+  advance_refused e =
       let s = said advance in
-      let h : T (saysRefused advance) = rw e tt in
+      let h : T (says_refused advance) = rw e tt in
       let z = stopped advance h in (
         s.used ∙ z.used,
         s.written ∙ ap length z.entries,
-        s.saved ∙ rw (is_true (saysRefused advance) h),
+        s.saved ∙ rw (is_true (says_refused advance) h),
         s.buffer ∙ z.buffer,
         s.log ∙ rw z.entries,
       )
 
-  advance-awaits : (r : Register) → R.report ≡ Waiting r → (advance.report ≡ waitingNumber) × ((answer_of advance).awaited ≡ offset_of r)
-  advance-awaits r e = ((said advance).number ∙ rw e, (said advance).awaited ∙ rw e)
+  advance_awaits : (r : Register) → R.report ≡ Waiting r → (advance.report ≡ waiting_number) × ((answer_of advance).awaited ≡ offset_of r)
+  advance_awaits r e = ((said advance).number ∙ rw e, (said advance).awaited ∙ rw e)
 
-  advance-awaits-nothing : T (not (eqb advance.report waitingNumber)) → (answer_of advance).awaited ≡ 0
-  advance-awaits-nothing h =
-      (said advance).awaited ∙ awaits-nothing R.report (rw (← (said advance).number) h)
+  advance_awaits_nothing : T (not (eqb advance.report waiting_number)) → (answer_of advance).awaited ≡ 0
+  advance_awaits_nothing h =
+      (said advance).awaited ∙ awaits_nothing R.report (rw (← (said advance).number) h)
 
   -- what was lent were bytes
-  advance-lent : Below 256 advance.buffer × Below 256 advance.answers
-  advance-lent = (advance.buffer-bytes, advance.answer-bytes)
+  advance_lent : Below 256 advance.buffer × Below 256 advance.answers
+  advance_lent = (advance.buffer_bytes, advance.answer_bytes)
 
 -- ---- the next access: nothing, a read or a write with the register's offset, or a refusal's number
 abbrev NextCall : Type 0
@@ -342,30 +342,30 @@ module _ (N : NextCall) where
   abbrev says : Next → Type 0
   says x =
       let (description, (operations, (saved, (buffer, _)))) = N.given in
-      nextFor (descriptionOf description.now) (operationsIn operations.now) (savedIn saved.now) buffer.now ≡ x
+      next_for (description_of description.now) (operations_in operations.now) (saved_in saved.now) buffer.now ≡ x
 
   abbrev access : AccessAnswer
   access = (let (_, (_, (_, (_, (value, _))))) = N.left in record { kind = N.gave; value = value.now })
 
-  next-over : says next.Over → access ≡ record { kind = 0; value = 0 }
-  next-over e = N.contract ∙ ap accessAnswer e
+  next_over : says next.Over → access ≡ record { kind = 0; value = 0 }
+  next_over e = N.contract ∙ ap access_answer e
 
-  next-read : (r : Register) → says (next.Read r) → access ≡ record { kind = 1; value = offset_of r }
-  next-read r e = N.contract ∙ ap accessAnswer e
+  next_read : (r : Register) → says (next.Read r) → access ≡ record { kind = 1; value = offset_of r }
+  next_read r e = N.contract ∙ ap access_answer e
 
-  next-write : (r : Register) → says (next.Write r) → access ≡ record { kind = 2; value = offset_of r }
-  next-write r e = N.contract ∙ ap accessAnswer e
+  next_write : (r : Register) → says (next.Write r) → access ≡ record { kind = 2; value = offset_of r }
+  next_write r e = N.contract ∙ ap access_answer e
 
-  next-refused : (r : Refusal) → says (next.Refused r) → access ≡ record { kind = 3; value = refusalNumber r }
-  next-refused r e = N.contract ∙ ap accessAnswer e
+  next_refused : (r : Refusal) → says (next.Refused r) → access ≡ record { kind = 3; value = refusal_number r }
+  next_refused r e = N.contract ∙ ap access_answer e
 
 -- ---- a service page: 0 with its length, and the page before what stood after it; or 15 with length 0, and every byte as it was
 abbrev PageCall : Type 0
 PageCall = CameBack page.ended page-reads.Post
 
-no-entries : (lent : List ℕ) → pageLeft (pageIn [] lent) ≡ asPageLeft 0 0 lent
-unfolding pageIn faultOf faultFrom words_in lines_of text_of
-no-entries lent = rw (leb-zero (length lent))
+no_entries : (lent : List ℕ) → page_left (page_in [] lent) ≡ as_page_left 0 0 lent
+unfolding page_in fault_of fault_from words_in lines_of text_of
+no_entries lent = rw (leb-zero (length lent))
 
 module _ (C : PageCall) where
   abbrev log : List ℕ
@@ -374,22 +374,22 @@ module _ (C : PageCall) where
   abbrev lent : List ℕ
   lent = (let (_, (page, _)) = C.given in page.now)
 
-  abbrev page-left : PageLeft
-  page-left = (let (_, (page, (length, _))) = C.left in asPageLeft C.gave length.now page.now)
+  abbrev page_left_holds : PageLeft
+  page_left_holds = (let (_, (page, (length, _))) = C.left in as_page_left C.gave length.now page.now)
 
-  abbrev page-text : List ℕ
-  page-text = page_of (words_in log)
+  abbrev page_text : List ℕ
+  page_text = page_of (words_in log)
 
-  page-laid : length log % 8 ≡ 0 → EachKnown (words_in log) → length page-text ≤ length lent →
-      page-left ≡ asPageLeft 0 (length page-text) (page-text ++ drop (length page-text) lent)
-  page-laid h k l = C.contract ∙ ap pageLeft (page-promises.accepted log lent h k l)
+  page_laid : length log % 8 ≡ 0 → EachKnown (words_in log) → length page_text ≤ length lent →
+      page_left_holds ≡ as_page_left 0 (length page_text) (page_text ++ drop (length page_text) lent)
+  page_laid h k l = C.contract ∙ ap page_left (page_promises.accepted log lent h k l)
 
-  page-refused : (length log % 8 ≡ 0 → EachKnown (words_in log) → length page-text ≤ length lent → ⊥) → page-left ≡ asPageLeft 15 0 lent
-  page-refused n = C.contract ∙ go (pageIn log lent).page refl
+  page_refused : (length log % 8 ≡ 0 → EachKnown (words_in log) → length page_text ≤ length lent → ⊥) → page_left_holds ≡ as_page_left 15 0 lent
+  page_refused n = C.contract ∙ go (page_in log lent).page refl
     where
-      go : (p : Page) → (pageIn log lent).page ≡ p → pageLeft (pageIn log lent) ≡ asPageLeft 15 0 lent
-      go (Laid k) e = absurd (let (h, l, m) = page-promises.only_then log lent k e in n h l m)
-      go NotLaid e = rw (e, page-promises.unchanged log lent e)
+      go : (p : Page) → (page_in log lent).page ≡ p → page_left (page_in log lent) ≡ as_page_left 15 0 lent
+      go (Laid k) e = absurd (let (h, l, m) = page_promises.only_then log lent k e in n h l m)
+      go NotLaid e = rw (e, page_promises.unchanged log lent e)
 
-  page-of-nothing : log ≡ [] → page-left ≡ asPageLeft 0 0 lent
-  page-of-nothing e = C.contract ∙ ap (λ (l : List ℕ). pageLeft (pageIn l lent)) e ∙ no-entries lent
+  page_of_nothing : log ≡ [] → page_left_holds ≡ as_page_left 0 0 lent
+  page_of_nothing e = C.contract ∙ ap (λ (l : List ℕ). page_left (page_in l lent)) e ∙ no_entries lent

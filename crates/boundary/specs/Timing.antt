@@ -1,7 +1,7 @@
 -- What the C boundary gives for the timing's answers. Assumes nothing.
 use Rattle.std.specs.Prelude.{ℕ, List, [], ◌∷◌, get_or}
-use Rattle.timing.specs.Refusals.{timingRefusalNumber}
-use Rattle.timing.specs.Timingr.{timingrWord, packOf}
+use Rattle.timing.specs.Refusals.{timing_refusal_number}
+use Rattle.timing.specs.Timingr.{timingr_word, pack_of}
 use Rattle.timing.specs.declared.I2cTiming.{I2cTiming}
 use Rattle.timing.specs.declared.Packed.{Packed}
 use Rattle.timing.specs.declared.Packed.TheVariants.{Raw, Refused}
@@ -16,27 +16,27 @@ use Rattle.boundary.specs.declared.TimingAnswer.{TimingAnswer}
 abbrev pub answer : ℕ → ℕ → TimingAnswer
 answer refusal timingr = record { refusal = refusal; timingr = timingr }
 
-abbrev pub packedAnswer : Packed → TimingAnswer
-packedAnswer (Raw r) = answer 0 r.0
-packedAnswer (Refused why) = answer (timingRefusalNumber why) 0
+abbrev pub packed_answer : Packed → TimingAnswer
+packed_answer (Raw r) = answer 0 r.0
+packed_answer (Refused why) = answer (timing_refusal_number why) 0
 
-abbrev pub timedAnswer : Timed → TimingAnswer
-timedAnswer (Timing t) = answer 0 (timingrWord t)
-timedAnswer (NotTimed why) = answer (timingRefusalNumber why) 0
+abbrev pub timed_answer : Timed → TimingAnswer
+timed_answer (Timing t) = answer 0 (timingr_word t)
+timed_answer (NotTimed why) = answer (timing_refusal_number why) 0
 
 -- 0 for a table that is accepted.
-abbrev pub loadedAnswer : Loaded → ℕ
-loadedAnswer Accepted = 0
-loadedAnswer (NotLoaded why) = timingRefusalNumber why
+abbrev pub loaded_answer : Loaded → ℕ
+loaded_answer Accepted = 0
+loaded_answer (NotLoaded why) = timing_refusal_number why
 
 -- What the code does with a timing: it packs it. That this is never refused is `bands-fit` of the crate `bands`.
-abbrev pub packedTimed : Timed → TimingAnswer
-packedTimed (Timing t) = packedAnswer (packOf t)
-packedTimed (NotTimed why) = answer (timingRefusalNumber why) 0
+abbrev pub packed_timed : Timed → TimingAnswer
+packed_timed (Timing t) = packed_answer (pack_of t)
+packed_timed (NotTimed why) = answer (timing_refusal_number why) 0
 
 -- The five fields stand in this order.
-abbrev pub timingIn : List ℕ → I2cTiming
-timingIn fields =
+abbrev pub timing_in : List ℕ → I2cTiming
+timing_in fields =
     record {
       presc = get_or fields 0 0;
       scldel = get_or fields 1 0;

@@ -1,8 +1,8 @@
 // A call's description, its answers and its entries, over lists of words that were read from bytes.
 ghost use Rattle.std.specs.Prelude.{◌≡◌, cond, eqb, length};
-ghost use Rattle.calls.specs.Advances.{isRefusal};
-ghost use Rattle.saved.specs.Saved.{savedLength, writtenTo};
-ghost use Rattle.boundary.specs.Calls.{told, hasConfiguration, configurationOf, describedBy, descriptionOf, verdictNumber, asBeginLeft, beginLeftIn, accessAnswer, accessIn, numbersOf, answerFor, asAdvanceLeft, advanceLeftIn};
+ghost use Rattle.calls.specs.Advances.{is_refusal};
+ghost use Rattle.saved.specs.Saved.{saved_length, written_to};
+ghost use Rattle.boundary.specs.Calls.{told, has_configuration, configuration_of, described_by, description_of, verdict_number, as_begin_left, begin_left_in, access_answer, access_in, numbers_of, answer_for, as_advance_left, advance_left_in};
 
 use calls::{Configuration, Description, Next, Report, SavedCall, Verdict};
 use kinds::{refusal, report};
@@ -49,7 +49,7 @@ fn told(words: &[u32; 16]) -> CallDescription
 
 // 1 has a configuration where it says so, 2 and 3 always.
 fn is_configured(call: u32, configured: u32) -> bool
-    ensures { result ≡ hasConfiguration call configured }
+    ensures { result ≡ has_configuration call configured }
 {
     match call {
         1 => configured != 0,
@@ -60,7 +60,7 @@ fn is_configured(call: u32, configured: u32) -> bool
 }
 
 fn configuration(a: CallDescription) -> Configuration
-    ensures { result ≡ configurationOf a }
+    ensures { result ≡ configuration_of a }
 {
     if is_configured(a.call, a.configured) {
         let config = address_words::config(a.own, a.own_ten, a.secondary, a.mask);
@@ -70,7 +70,7 @@ fn configuration(a: CallDescription) -> Configuration
 }
 
 fn described_by(a: CallDescription) -> Description
-    ensures { result ≡ describedBy a }
+    ensures { result ≡ described_by a }
 {
     Description {
         call: a.call,
@@ -83,20 +83,20 @@ fn described_by(a: CallDescription) -> Description
 }
 
 pub fn describe(words: &[u32; 16]) -> Description
-    ensures { result ≡ descriptionOf words.now }
+    ensures { result ≡ description_of words.now }
 {
     described_by(told(words))
 }
 
 // A place for a saved call has its length.
 fn place_number(n: usize) -> u32
-    ensures { result ≡ cond (eqb n savedLength) 0 13 }
+    ensures { result ≡ cond (eqb n saved_length) 0 13 }
 {
     if n == saved::LENGTH { 0 } else { 13 }
 }
 
 fn verdict_number(v: Verdict, n: usize) -> u32
-    ensures { result ≡ verdictNumber v n }
+    ensures { result ≡ verdict_number v n }
 {
     match v {
         Verdict::Accepted(_) => place_number(n),
@@ -105,7 +105,7 @@ fn verdict_number(v: Verdict, n: usize) -> u32
 }
 
 pub fn begin(d: Description, ops: &[u32], buffer: &[u8], saved: &mut [u8]) -> u32
-    ensures { asBeginLeft result saved.new ≡ beginLeftIn d ops.now (length buffer.now) saved.old }
+    ensures { as_begin_left result saved.new ≡ begin_left_in d ops.now (length buffer.now) saved.old }
 {
     let begun = driver::begin(d, ops, buffer);
     let call = begun.saved;
@@ -116,7 +116,7 @@ pub fn begin(d: Description, ops: &[u32], buffer: &[u8], saved: &mut [u8]) -> u3
 }
 
 fn access_answer(next: Next) -> AccessAnswer
-    ensures { result ≡ accessAnswer next }
+    ensures { result ≡ access_answer next }
 {
     match next {
         Next::Over => AccessAnswer { kind: 0, value: 0 },
@@ -136,7 +136,7 @@ fn access_answer(next: Next) -> AccessAnswer
 }
 
 pub fn next(d: Description, ops: &[u32], saved: &[u8], buffer: &[u8]) -> AccessAnswer
-    ensures { result ≡ accessIn d ops.now saved.now buffer.now }
+    ensures { result ≡ access_in d ops.now saved.now buffer.now }
 {
     let call = saved::read(saved);
     access_answer(driver::next_access(d, ops, call, buffer))
@@ -144,7 +144,7 @@ pub fn next(d: Description, ops: &[u32], saved: &[u8], buffer: &[u8]) -> AccessA
 
 // A refused call is left as it is.
 fn keep(report: Report, next: SavedCall, saved: &mut [u8])
-    ensures { saved.new ≡ cond (isRefusal report) saved.old (writtenTo saved.old next) }
+    ensures { saved.new ≡ cond (is_refusal report) saved.old (written_to saved.old next) }
 {
     if report::is_refusal(report) {
         return;
@@ -160,7 +160,7 @@ fn wide(n: u32) -> u64
 
 // What an advance leaves besides its report's number, each number in 64 bits on every machine.
 fn answer_for(report: Report, used: usize, written: usize, answer: &mut [u64; 4])
-    ensures { answer.new ≡ numbersOf (answerFor report used written) }
+    ensures { answer.new ≡ numbers_of (answer_for report used written) }
 {
     let value = wide(report::value(report));
     let awaited = wide(report::awaited(report));
@@ -176,7 +176,7 @@ pub fn advance(
     log: &mut [u8],
     answer: &mut [u64; 4],
 ) -> u32
-    ensures { asAdvanceLeft result answer.new saved.new buffer.new log.new ≡ advanceLeftIn d ops.now saved.old buffer.old answers.now log.old }
+    ensures { as_advance_left result answer.new saved.new buffer.new log.new ≡ advance_left_in d ops.now saved.old buffer.old answers.now log.old }
 {
     let call = saved::read(saved);
     let far = advance_bytes::run(call, d, ops, buffer, answers, log);

@@ -2,16 +2,16 @@
 // signatures mean the same on every machine. `compare` and the
 // firmware link it, and include/huskerivory.h says the same to a C programmer.
 ghost use Rattle.std.specs.Prelude.{◌≡◌, length};
-ghost use Rattle.timing.specs.Bands.{timingOf};
-ghost use Rattle.timing.specs.Refusals.{timingRefusalNumber};
-ghost use Rattle.timing.specs.Timingr.{packOf, unpackOf};
+ghost use Rattle.timing.specs.Bands.{timing_of};
+ghost use Rattle.timing.specs.Refusals.{timing_refusal_number};
+ghost use Rattle.timing.specs.Timingr.{pack_of, unpack_of};
 ghost use Rattle.words.specs.Words.{Below};
-ghost use Rattle.bands.specs.Bands.{loadedOf, timingBy};
-ghost use Rattle.bands.specs.Table.{bandsIn};
-ghost use Rattle.boundary.specs.Abi.{asAbiLeft, abiLeft};
-ghost use Rattle.boundary.specs.Calls.{descriptionOf, operationsIn, asBeginLeft, beginLeftIn, kindAndValue, accessIn, asAdvanceLeft, advanceLeftIn};
-ghost use Rattle.boundary.specs.Page.{asPageLeft, pageLeftIn};
-ghost use Rattle.boundary.specs.Timing.{answer, packedAnswer, packedTimed, timedAnswer, loadedAnswer, timingIn, fields_of};
+ghost use Rattle.bands.specs.Bands.{loaded_of, timing_by};
+ghost use Rattle.bands.specs.Table.{bands_in};
+ghost use Rattle.boundary.specs.Abi.{as_abi_left, abi_left};
+ghost use Rattle.boundary.specs.Calls.{description_of, operations_in, as_begin_left, begin_left_in, kind_and_value, access_in, as_advance_left, advance_left_in};
+ghost use Rattle.boundary.specs.Page.{as_page_left, page_left_in};
+ghost use Rattle.boundary.specs.Timing.{answer, packed_answer, packed_timed, timed_answer, loaded_answer, timing_in, fields_of};
 
 use bands::Loaded;
 use timing::{I2cTiming, Packed, RawTimingr, Timed, TimingRefusal};
@@ -22,7 +22,7 @@ mod call;
 // caller that was built for another version knows it by the return value alone.
 #[unsafe(no_mangle)]
 pub extern "C" fn huskerivory_abi(sizes: &mut [u32; 8]) -> u32
-    ensures { asAbiLeft result sizes.new ≡ abiLeft }
+    ensures { as_abi_left result sizes.new ≡ abi_left }
 {
     *sizes = [64, saved::LENGTH as u32, 32, 8, 64, 65535, 13, 46];
     3
@@ -36,7 +36,7 @@ struct TimingAnswer {
 }
 
 fn refused(why: TimingRefusal) -> TimingAnswer
-    ensures { result ≡ answer (timingRefusalNumber why) 0 }
+    ensures { result ≡ answer (timing_refusal_number why) 0 }
 {
     TimingAnswer {
         refusal: why.number(),
@@ -45,7 +45,7 @@ fn refused(why: TimingRefusal) -> TimingAnswer
 }
 
 fn packed_answer(p: Packed) -> TimingAnswer
-    ensures { result ≡ packedAnswer p }
+    ensures { result ≡ packed_answer p }
 {
     match p {
         Packed::Raw(raw) => TimingAnswer {
@@ -57,7 +57,7 @@ fn packed_answer(p: Packed) -> TimingAnswer
 }
 
 fn timed_answer(t: Timed) -> TimingAnswer
-    ensures { result ≡ packedTimed t }
+    ensures { result ≡ packed_timed t }
 {
     match t {
         Timed::Timing(timing) => packed_answer(timing.pack()),
@@ -75,7 +75,7 @@ fn tell(a: TimingAnswer, timingr: &mut u32) -> u32
 // The TIMINGR word for a kernel clock and a bus frequency in hertz, or one of the refusals 1 to 6.
 #[unsafe(no_mangle)]
 pub extern "C" fn huskerivory_timing(clock: u32, frequency: u32, timingr: &mut u32) -> u32
-    ensures { answer result timingr.new ≡ timedAnswer (timingOf clock frequency) }
+    ensures { answer result timingr.new ≡ timed_answer (timing_of clock frequency) }
 {
     tell(
         timed_answer(bands::calc_timing_params(clock, frequency)),
@@ -84,7 +84,7 @@ pub extern "C" fn huskerivory_timing(clock: u32, frequency: u32, timingr: &mut u
 }
 
 fn loaded_answer(l: Loaded) -> u32
-    ensures { result ≡ loadedAnswer l }
+    ensures { result ≡ loaded_answer l }
 {
     match l {
         Loaded::Accepted => 0,
@@ -95,7 +95,7 @@ fn loaded_answer(l: Loaded) -> u32
 // Looks at a board's own table of speed bands, 24 bytes to a row. 0, or 16.
 #[unsafe(no_mangle)]
 pub extern "C" fn huskerivory_load_bands(bands: &[u8]) -> u32
-    ensures { result ≡ loadedAnswer (loadedOf (bandsIn bands.now)) }
+    ensures { result ≡ loaded_answer (loaded_of (bands_in bands.now)) }
 {
     loaded_answer(bands::load(bands))
 }
@@ -108,7 +108,7 @@ pub extern "C" fn huskerivory_timing_by_bands(
     frequency: u32,
     timingr: &mut u32,
 ) -> u32
-    ensures { answer result timingr.new ≡ timedAnswer (timingBy (bandsIn bands.now) clock frequency) }
+    ensures { answer result timingr.new ≡ timed_answer (timing_by (bands_in bands.now) clock frequency) }
 {
     tell(
         timed_answer(bands::timing_by(bands, clock, frequency)),
@@ -117,7 +117,7 @@ pub extern "C" fn huskerivory_timing_by_bands(
 }
 
 fn timing_in(fields: &[u8; 5]) -> I2cTiming
-    ensures { result ≡ timingIn fields.now }
+    ensures { result ≡ timing_in fields.now }
 {
     I2cTiming {
         presc: fields[0],
@@ -131,7 +131,7 @@ fn timing_in(fields: &[u8; 5]) -> I2cTiming
 // The TIMINGR word of five fields, or refusal 7.
 #[unsafe(no_mangle)]
 pub extern "C" fn huskerivory_pack(fields: &[u8; 5], timingr: &mut u32) -> u32
-    ensures { answer result timingr.new ≡ packedAnswer (packOf (timingIn fields.now)) }
+    ensures { answer result timingr.new ≡ packed_answer (pack_of (timing_in fields.now)) }
 {
     let t = timing_in(fields);
     tell(packed_answer(t.pack()), timingr)
@@ -139,7 +139,7 @@ pub extern "C" fn huskerivory_pack(fields: &[u8; 5], timingr: &mut u32) -> u32
 
 #[unsafe(no_mangle)]
 pub extern "C" fn huskerivory_unpack(timingr: u32, fields: &mut [u8; 5])
-    ensures { fields.new ≡ fields_of (unpackOf (record { 0 = timingr })) }
+    ensures { fields.new ≡ fields_of (unpack_of (record { 0 = timingr })) }
 {
     let t = RawTimingr(timingr).unpack();
     *fields = [t.presc, t.scldel, t.sdadel, t.sclh, t.scll];
@@ -160,7 +160,7 @@ pub extern "C" fn huskerivory_begin(
     buffer: &[u8],
     saved: &mut [u8],
 ) -> u32
-    ensures { asBeginLeft result saved.new ≡ beginLeftIn (descriptionOf description.now) (operationsIn operations.now) (length buffer.now) saved.old }
+    ensures { as_begin_left result saved.new ≡ begin_left_in (description_of description.now) (operations_in operations.now) (length buffer.now) saved.old }
 {
     let d = call::describe(description);
     let mut ops = list();
@@ -180,7 +180,7 @@ pub extern "C" fn huskerivory_advance(
     log: &mut [u8],
     answer: &mut [u64; 4],
 ) -> u32
-    ensures log_after { asAdvanceLeft result answer.new saved.new buffer.new log.new ≡ advanceLeftIn (descriptionOf description.now) (operationsIn operations.now) saved.old buffer.old answers.now log.old }
+    ensures log_after { as_advance_left result answer.new saved.new buffer.new log.new ≡ advance_left_in (description_of description.now) (operations_in operations.now) saved.old buffer.old answers.now log.old }
     ensures bytes { Below 256 buffer.old × Below 256 answers.now }
 {
     let d = call::describe(description);
@@ -198,7 +198,7 @@ pub extern "C" fn huskerivory_next(
     buffer: &[u8],
     value: &mut u32,
 ) -> u32
-    ensures { kindAndValue result value.new ≡ accessIn (descriptionOf description.now) (operationsIn operations.now) saved.now buffer.now }
+    ensures { kind_and_value result value.new ≡ access_in (description_of description.now) (operations_in operations.now) saved.now buffer.now }
 {
     let d = call::describe(description);
     let mut ops = list();
@@ -211,7 +211,7 @@ pub extern "C" fn huskerivory_next(
 // Lays a log out as a service page. 0 and the page's length, or 15 and 0.
 #[unsafe(no_mangle)]
 pub extern "C" fn huskerivory_page(log: &[u8], page: &mut [u8], length: &mut u64) -> u32
-    ensures { asPageLeft result length.new page.new ≡ pageLeftIn log.now page.old }
+    ensures { as_page_left result length.new page.new ≡ page_left_in log.now page.old }
 {
     let laid = page::lay_out(log, page);
     *length = laid.length() as u64;

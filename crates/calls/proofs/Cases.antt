@@ -6,17 +6,17 @@ use Prim.Native.Nat.{ℕ, suc, ◌+◌}
 use mathlib.Core.Path.{◌≡◌, refl}
 use mathlib.Core.List.{List, [], ◌∷◌, ◌++◌, map}
 use lib.ListN.{length, replicate}
-use Rattle.fields.specs.Field.{bits_at, with_bits, getOf, put_of}
+use Rattle.fields.specs.Field.{bits_at, with_bits, get_of, put_of}
 use Rattle.timing.proofs.Cases.{Question, Answer, Case, ask, cases}
-use Rattle.timing.specs.Bands.{timingOf, bandOf, inBandOf, equalAt, doubleAt}
-use Rattle.timing.specs.Timingr.{unpackOf}
-use Rattle.calls.specs.Advances.{answersIn}
-use Rattle.calls.specs.Calls.{is_call, isKind, manual, configOf, withMode, withSecondary, withMask}
-use Rattle.calls.specs.Pieces.{piecesFor}
-use Rattle.calls.specs.Refusals.{lookupOf, verdictOf, checkOf, groupTaken, accepts}
-use Rattle.calls.specs.Run.{Entry, Run, begunOf, advanceFrom, run_of}
-use Rattle.calls.specs.Steps.{accessOf, after_of, beginOf, freshAt, saved_at}
-use Rattle.calls.specs.Words.{cr2Of, timingrOf, oar1Of, oar2Of, alterOf}
+use Rattle.timing.specs.Bands.{timing_of, band_of, in_band_of, equal_at, double_at}
+use Rattle.timing.specs.Timingr.{unpack_of}
+use Rattle.calls.specs.Advances.{answers_in}
+use Rattle.calls.specs.Calls.{is_call, is_kind, manual, config_of, with_mode, with_secondary, with_mask}
+use Rattle.calls.specs.Pieces.{pieces_for}
+use Rattle.calls.specs.Refusals.{lookup_of, verdict_of, check_of, group_taken, accepts}
+use Rattle.calls.specs.Run.{Entry, Run, begun_of, advance_from, run_of}
+use Rattle.calls.specs.Steps.{access_of, after_of, begin_of, fresh_at, saved_at}
+use Rattle.calls.specs.Words.{cr2_of, timingr_of, oar1_of, oar2_of, alter_of}
 use Rattle.calls.specs.declared.AddressMode.{AddressMode}
 use Rattle.calls.specs.declared.AddressMode.TheVariants.{AddressMode7bit, AddressMode10bit}
 use Rattle.calls.specs.declared.Configuration.{Configuration}
@@ -49,16 +49,16 @@ abbrev came : Run → Came
 came R = record { report = R.report; used = R.used; log = R.entries; buffer = R.buffer }
 
 -- a call is advanced with the operations, the buffer, the saved call, the answers and a number of log places
-abbrev answerTo : Asked → Answered
-answerTo (word x) = word (ask x)
-answerTo (run d ops b s l places) = run (came (run_of d ops places s b l))
+abbrev answer_to : Asked → Answered
+answer_to (word x) = word (ask x)
+answer_to (run d ops b s l places) = run (came (run_of d ops places s b l))
 
 record Row : Type 0 where
   asked : Asked
   answered : Answered
 
-abbrev fromTiming : Case → Row
-fromTiming c = record { asked = word c.question; answered = word c.answer }
+abbrev from_timing : Case → Row
+from_timing c = record { asked = word c.question; answered = word c.answer }
 
 -- call n with its argument as in a bench file: the address of 7, the listen kind of 4 and 5
 abbrev pub description : ℕ → ℕ → AddressMode → ℕ → Configuration → Description
@@ -79,7 +79,7 @@ w at v = record { code = at + 0x100; value = v }
 -- on. Its answers are what the reads gave, and the log has one place to spare.
 abbrev resumed : SavedCall → Description → List ℕ → List ℕ → Outcome → List Entry → List ℕ → Row
 resumed s d ops b o log after =
-    let l : List ℕ = answersIn log in
+    let l : List ℕ = answers_in log in
     record {
       asked = run d ops b s l (suc (length log));
       answered = run (record { report = Over o; used = length l; log = log; buffer = after });
@@ -87,14 +87,14 @@ resumed s d ops b o log after =
 
 -- and from begin
 abbrev ran : Description → List ℕ → List ℕ → Outcome → List Entry → List ℕ → Row
-ran d ops b o log after = resumed (begunOf d ops (length b)).saved d ops b o log after
+ran d ops b o log after = resumed (begun_of d ops (length b)).saved d ops b o log after
 
 -- the first accesses alone: the log has no place more
 abbrev starts : Description → List ℕ → List ℕ → List Entry → List ℕ → Row
 starts d ops b log after =
-    let l : List ℕ = answersIn log in
+    let l : List ℕ = answers_in log in
     record {
-      asked = run d ops b (begunOf d ops (length b)).saved l (length log);
+      asked = run d ops b (begun_of d ops (length b)).saved l (length log);
       answered = run (record { report = Full; used = length l; log = log; buffer = after });
     }
 
@@ -156,14 +156,14 @@ abbrev long : List Row
 long =
     -- 256 bytes: 255 with RELOAD, then one with AUTOEND and no START, SADD or RD_WRN; TCR ends the first piece and TC does not
     starts (plain 7 0x50) (256 ∷ []) (replicate 256 0) (w 0x04 0x01FF20A0 ∷ r 0x18 1 ∷ r 0x04 0 ∷ r 0x18 2 ∷ w 0x28 0 ∷ []) (replicate 256 0)
-    ∷ resumed (saved_at (freshAt 7 Wait) Wait 0 254 0 0 (Done 0) 511) (plain 7 0x50) (256 ∷ []) (replicate 256 0) (Done 0)
+    ∷ resumed (saved_at (fresh_at 7 Wait) Wait 0 254 0 0 (Done 0) 511) (plain 7 0x50) (256 ∷ []) (replicate 256 0) (Done 0)
     (r 0x18 2 ∷ w 0x28 0 ∷ r 0x18 0x40 ∷ r 0x18 0x80 ∷ w 0x04 0x02010000 ∷ r 0x18 1 ∷ r 0x04 0 ∷ r 0x18 2 ∷ w 0x28 0 ∷ r 0x18 0x20 ∷ w 0x1C 0x20 ∷ [])
     (replicate 256 0)
     -- ten bits, a write of 1 and a read of 256: HEAD10R stands where the read starts, and RD_WRN in both of its pieces
     ∷ starts (description 7 0x123 AddressMode10bit 0 Unconfigured) (1 ∷ 0x10100 ∷ []) (replicate 257 0x11)
     (w 0x04 0x00012923 ∷ r 0x18 1 ∷ r 0x04 0 ∷ r 0x18 2 ∷ w 0x28 0x11 ∷ r 0x18 0x40 ∷ w 0x04 0x01FF3D23 ∷ r 0x18 1 ∷ r 0x04 0 ∷ r 0x18 4 ∷ r 0x24 0x22 ∷ [])
     (0x11 ∷ 0x22 ∷ replicate 255 0x11)
-    ∷ resumed (saved_at (freshAt 7 Wait) Wait 1 254 0 0 (Done 0) 517)
+    ∷ resumed (saved_at (fresh_at 7 Wait) Wait 1 254 0 0 (Done 0) 517)
     (description 7 0x123 AddressMode10bit 0 Unconfigured) (1 ∷ 0x10100 ∷ []) (replicate 257 0x11) (Done 0)
     (r 0x18 4 ∷ r 0x24 0x22 ∷ r 0x18 0x80 ∷ w 0x04 0x02010400 ∷ r 0x18 1 ∷ r 0x04 0 ∷ r 0x18 4 ∷ r 0x24 0x33 ∷ r 0x18 0x20 ∷ w 0x1C 0x20 ∷ [])
     (replicate 255 0x11 ++ 0x22 ∷ 0x33 ∷ [])
@@ -249,7 +249,7 @@ transfers =
     (0x5A ∷ [])
     -- after 254 bytes of the first block, the end of a run of 523 accesses: NBYTES is set anew, ADDRCF is not cleared again, a zero follows
     -- the last byte
-    ∷ resumed (saved_at (freshAt 26 Wait) Wait 0 254 254 0 (Done 0) 511)
+    ∷ resumed (saved_at (fresh_at 26 Wait) Wait 0 254 254 0 (Done 0) 511)
     (plain 26 0) [] (replicate 256 0x5A) (Done 256)
     (r 0x18 2 ∷ w 0x28 0x5A ∷ r 0x04 0x00FF0000 ∷ w 0x04 0x00010000 ∷ r 0x18 2 ∷ w 0x28 0x5A ∷ r 0x18 2 ∷ w 0x28 0
     ∷ r 0x18 0x10 ∷ w 0x1C 0x10 ∷ r 0x18 1 ∷ r 0x18 1 ∷ [])
@@ -261,15 +261,15 @@ transfers =
 abbrev totals : List Row
 totals =
     -- a NACK right after the first of two blocks: of 255 bytes put out one was not sent, whether the block that follows is the last one ..
-    resumed (saved_at (freshAt 26 Wait) Wait 0 254 254 0 (Done 0) 511) (plain 26 0) [] (replicate 256 0x5A) (Done 254)
+    resumed (saved_at (fresh_at 26 Wait) Wait 0 254 254 0 (Done 0) 511) (plain 26 0) [] (replicate 256 0x5A) (Done 254)
     (r 0x18 2 ∷ w 0x28 0x5A ∷ r 0x04 0 ∷ w 0x04 0x00010000 ∷ r 0x18 0x11 ∷ w 0x1C 0x10 ∷ r 0x18 1 ∷ r 0x18 1 ∷ [])
     (replicate 256 0x5A)
     -- .. or not
-    ∷ resumed (saved_at (freshAt 26 Wait) Wait 0 254 254 0 (Done 0) 511) (plain 26 0) [] (replicate 511 0x5A) (Done 254)
+    ∷ resumed (saved_at (fresh_at 26 Wait) Wait 0 254 254 0 (Done 0) 511) (plain 26 0) [] (replicate 511 0x5A) (Done 254)
     (r 0x18 2 ∷ w 0x28 0x5A ∷ r 0x04 0 ∷ w 0x04 0x00FF0000 ∷ r 0x18 0x11 ∷ w 0x1C 0x10 ∷ r 0x18 1 ∷ r 0x18 1 ∷ [])
     (replicate 511 0x5A)
     -- and after the second of three
-    ∷ resumed (saved_at (freshAt 26 Wait) Wait 1 254 509 0 (Done 0) 1023) (plain 26 0) [] (replicate 511 0x5A) (Done 509)
+    ∷ resumed (saved_at (fresh_at 26 Wait) Wait 1 254 509 0 (Done 0) 1023) (plain 26 0) [] (replicate 511 0x5A) (Done 509)
     (r 0x18 2 ∷ w 0x28 0x5A ∷ r 0x04 0 ∷ w 0x04 0x00010000 ∷ r 0x18 0x11 ∷ w 0x1C 0x10 ∷ r 0x18 1 ∷ r 0x18 1 ∷ [])
     (replicate 511 0x5A)
     -- a filling zero counts as put out, three of them no more than one
@@ -285,23 +285,23 @@ totals =
     (r 0x04 0 ∷ w 0x04 0x00010000 ∷ w 0x1C 8 ∷ r 0x18 2 ∷ w 0x28 0x5A ∷ r 0x18 0x10 ∷ w 0x1C 0x10 ∷ r 0x18 2 ∷ w 0x28 0 ∷ r 0x18 1 ∷ [])
     (0x5A ∷ [])
     -- made-up saved calls: the total comes from the number that is carried, not from the byte
-    ∷ resumed (saved_at (freshAt 26 Wait) Wait 0 1 3 0 (Done 0) 0) (plain 26 0) [] (0x5A ∷ 0x5B ∷ []) (Done 2)
+    ∷ resumed (saved_at (fresh_at 26 Wait) Wait 0 1 3 0 (Done 0) 0) (plain 26 0) [] (0x5A ∷ 0x5B ∷ []) (Done 2)
     (r 0x18 0x11 ∷ w 0x1C 0x10 ∷ r 0x18 1 ∷ r 0x18 1 ∷ [])
     (0x5A ∷ 0x5B ∷ [])
     -- 28 starts it at 0 with its transfer
-    ∷ resumed (saved_at (freshAt 28 Event) Event 0 0 3 0 (Done 0) 0) (plain 28 0) [] (0x5A ∷ 0x5B ∷ []) (Done 0)
+    ∷ resumed (saved_at (fresh_at 28 Event) Event 0 0 3 0 (Done 0) 0) (plain 28 0) [] (0x5A ∷ 0x5B ∷ []) (Done 0)
     (r 0x18 0x00430009 ∷ r 0x00 0x10001 ∷ w 0x00 1 ∷ r 0x04 0x01FF0000 ∷ w 0x04 0 ∷ w 0x1C 8 ∷ r 0x04 0 ∷ w 0x04 0x00020000 ∷ w 0x1C 8
     ∷ r 0x18 0x11 ∷ w 0x1C 0x10 ∷ r 0x18 1 ∷ r 0x18 1 ∷ [])
     (0x5A ∷ 0x5B ∷ [])
     -- one more than the buffer's length + 1 is refused, in the event too
-    ∷ refused (saved_at (freshAt 26 Wait) Wait 0 1 4 0 (Done 0) 0) (plain 26 0) (0x5A ∷ 0x5B ∷ [])
-    ∷ refused (saved_at (freshAt 28 Event) Event 0 0 4 0 (Done 0) 0) (plain 28 0) (0x5A ∷ 0x5B ∷ [])
+    ∷ refused (saved_at (fresh_at 26 Wait) Wait 0 1 4 0 (Done 0) 0) (plain 26 0) (0x5A ∷ 0x5B ∷ [])
+    ∷ refused (saved_at (fresh_at 28 Event) Event 0 0 4 0 (Done 0) 0) (plain 28 0) (0x5A ∷ 0x5B ∷ [])
     -- unless the call has ended; and in other calls the number is not looked at
-    ∷ resumed (saved_at (freshAt 26 Ended) Ended 0 1 4 0 (Done 7) 0) (plain 26 0) [] (0x5A ∷ 0x5B ∷ []) (Done 7) [] (0x5A ∷ 0x5B ∷ [])
-    ∷ resumed (saved_at (freshAt 10 Wait) Wait 0 2 4 0 (Done 0) 0) (plain 10 0) [] (0x5A ∷ 0x5B ∷ []) (Done 1)
+    ∷ resumed (saved_at (fresh_at 26 Ended) Ended 0 1 4 0 (Done 7) 0) (plain 26 0) [] (0x5A ∷ 0x5B ∷ []) (Done 7) [] (0x5A ∷ 0x5B ∷ [])
+    ∷ resumed (saved_at (fresh_at 10 Wait) Wait 0 2 4 0 (Done 0) 0) (plain 10 0) [] (0x5A ∷ 0x5B ∷ []) (Done 1)
     (r 0x18 0x11 ∷ w 0x1C 0x10 ∷ r 0x18 1 ∷ r 0x18 1 ∷ [])
     (0x5A ∷ 0x5B ∷ [])
-    ∷ resumed (saved_at (freshAt 25 Wait) Wait 0 1 4 0 (Done 0) 0) (plain 25 0) [] (0x5A ∷ 0x5B ∷ []) (Done 2)
+    ∷ resumed (saved_at (fresh_at 25 Wait) Wait 0 1 4 0 (Done 0) 0) (plain 25 0) [] (0x5A ∷ 0x5B ∷ []) (Done 2)
     (r 0x18 4 ∷ r 0x24 0x77 ∷ [])
     (0x5A ∷ 0x77 ∷ [])
     ∷ []
@@ -318,15 +318,15 @@ controls =
     (r 0x00 0xFFFFFFFF ∷ w 0x00 0xFFFFFFFE ∷ w 0x10 0x60FB1C39 ∷ w 0x00 1 ∷ [])
     []
     -- and OAR1 before that, where it has a configuration
-    ∷ ran (description 1 0 AddressMode7bit 0x60FB1C39 (Configured (configOf 0x42))) [] [] (Done 0)
+    ∷ ran (description 1 0 AddressMode7bit 0x60FB1C39 (Configured (config_of 0x42))) [] [] (Done 0)
     (r 0x00 0xFFFFFFFF ∷ w 0x00 0xFFFFFFFE ∷ w 0x10 0x60FB1C39 ∷ w 0x08 0x84 ∷ w 0x00 1 ∷ [])
     []
     -- call 2 writes neither SCLL nor SCLH, and changes PE and ANFOFF alone
-    ∷ ran (description 2 0 AddressMode7bit 0xFFFFFFFF (Configured (withMask 2 (withSecondary 0x21 (withMode AddressMode10bit (configOf 0x2A5)))))) [] [] (Done 0)
+    ∷ ran (description 2 0 AddressMode7bit 0xFFFFFFFF (Configured (with_mask 2 (with_secondary 0x21 (with_mode AddressMode10bit (config_of 0x2A5)))))) [] [] (Done 0)
     (r 0x00 0xFFFFFFFF ∷ w 0x00 0xFFFFFFFE ∷ w 0x10 0xF0FF0000 ∷ w 0x08 0x6A5 ∷ w 0x0C 0x342 ∷ r 0x00 0xFFFFFFFE ∷ w 0x00 0xFFFFEFFF ∷ [])
     []
     -- a secondary address without a mask
-    ∷ ran (description 3 0 AddressMode7bit 0 (Configured (withSecondary 0x21 (configOf 0x42)))) [] [] (Done 0) (w 0x08 0x84 ∷ w 0x0C 0x42 ∷ []) []
+    ∷ ran (description 3 0 AddressMode7bit 0 (Configured (with_secondary 0x21 (config_of 0x42)))) [] [] (Done 0) (w 0x08 0x84 ∷ w 0x0C 0x42 ∷ []) []
     -- 4 enables and 5 disables, kinds 0 to 2 in CR1, OAR1 and OAR2
     ∷ ran (plain 4 0) [] [] (Done 0) (r 0x00 0 ∷ w 0x00 0x00080000 ∷ []) []
     ∷ ran (plain 4 1) [] [] (Done 0) (r 0x08 0x84 ∷ w 0x08 0x8084 ∷ []) []
@@ -337,8 +337,8 @@ controls =
     ∷ []
 
 abbrev table : List Row
-table = map fromTiming cases ++ transactions ++ long ++ events ++ transfers ++ totals ++ controls
+table = map from_timing cases ++ transactions ++ long ++ events ++ transfers ++ totals ++ controls
 
-proved-cases : map (λ (r : Row). answerTo r.asked) table ≡ map (λ (r : Row). r.answered) table
-unfolding timingOf bandOf inBandOf equalAt doubleAt getOf bits_at put_of with_bits unpackOf is_call isKind manual piecesFor lookupOf verdictOf checkOf groupTaken accepts begunOf advanceFrom run_of cr2Of timingrOf oar1Of oar2Of alterOf accessOf after_of beginOf
-proved-cases = refl
+proved_cases : map (λ (r : Row). answer_to r.asked) table ≡ map (λ (r : Row). r.answered) table
+unfolding timing_of band_of in_band_of equal_at double_at get_of bits_at put_of with_bits unpack_of is_call is_kind manual pieces_for lookup_of verdict_of check_of group_taken accepts begun_of advance_from run_of cr2_of timingr_of oar1_of oar2_of alter_of access_of after_of begin_of
+proved_cases = refl

@@ -6,35 +6,35 @@ use mathlib.Core.List.{List, [], ◌∷◌}
 use lib.ListN.{length, set}
 use Rattle.calls.specs.Calls.{Request}
 use Rattle.calls.specs.Pieces.{view_of}
-use Rattle.calls.specs.Run.{byte_of, uncutTurn, uncutOf}
-use Rattle.calls.specs.Steps.{accessOf, after_of, beginOf, oneMore}
+use Rattle.calls.specs.Run.{byte_of, uncut_turn, uncut_of}
+use Rattle.calls.specs.Steps.{access_of, after_of, begin_of, one_more}
 use Rattle.calls.specs.declared.Access.{Access}
 use Rattle.calls.specs.declared.Access.TheVariants.{Read, Take, Write, Nothing}
 use Rattle.calls.specs.declared.SavedCall.{SavedCall}
-use Rattle.calls.proofs.Views.{noted-keeps, apply-keeps, noted_in, thenIn, after-noted}
+use Rattle.calls.proofs.Views.{noted_keeps, apply_keeps, noted_in, then_in, after_noted}
 
-after-counts : (q : Request) (s : SavedCall) (a : ℕ) → (after_of q s a).accesses ≡ oneMore s.accesses
-after-counts q s a =
-    rw (after-noted q s a, (apply-keeps (noted_in q s a) a (thenIn q s a)).1, (noted-keeps (view_of q s) s a s.step).2)
+after_counts : (q : Request) (s : SavedCall) (a : ℕ) → (after_of q s a).accesses ≡ one_more s.accesses
+after_counts q s a =
+    rw (after_noted q s a, (apply_keeps (noted_in q s a) a (then_in q s a)).1, (noted_keeps (view_of q s) s a s.step).2)
 
 abbrev most : ℕ
 most = 4294967295
 
 -- from any saved call
 counts : (q : Request) (k : ℕ) (s : SavedCall) (b l : List ℕ) → s.accesses ≤ most
-    → (uncutOf q k s b l).saved.accesses ≡ min (s.accesses + length (uncutOf q k s b l).log) most
-unfolding uncutOf
+    → (uncut_of q k s b l).saved.accesses ≡ min (s.accesses + length (uncut_of q k s b l).log) most
+unfolding uncut_of
 counts q zero s b l h = omega arith
-counts q (suc k) s b l h = go l (accessOf q b s) (counts q k)
+counts q (suc k) s b l h = go l (access_of q b s) (counts q k)
   where
     step : (a : ℕ) (b l : List ℕ) → ((s : SavedCall) (b l : List ℕ) → s.accesses ≤ most
-        → (uncutOf q k s b l).saved.accesses ≡ min (s.accesses + length (uncutOf q k s b l).log) most)
-        → (uncutOf q k (after_of q s a) b l).saved.accesses ≡ min (s.accesses + suc (length (uncutOf q k (after_of q s a) b l).log)) most
-    step a b l ih = omega (arith, after-counts q s a, ih (after_of q s a) b l (omega (arith, after-counts q s a)))
+        → (uncut_of q k s b l).saved.accesses ≡ min (s.accesses + length (uncut_of q k s b l).log) most)
+        → (uncut_of q k (after_of q s a) b l).saved.accesses ≡ min (s.accesses + suc (length (uncut_of q k (after_of q s a) b l).log)) most
+    step a b l ih = omega (arith, after_counts q s a, ih (after_of q s a) b l (omega (arith, after_counts q s a)))
 
     go : (l : List ℕ) (x : Access) → ((s : SavedCall) (b l : List ℕ) → s.accesses ≤ most
-        → (uncutOf q k s b l).saved.accesses ≡ min (s.accesses + length (uncutOf q k s b l).log) most)
-        → (uncutTurn (uncutOf q k) q s b l x).saved.accesses ≡ min (s.accesses + length (uncutTurn (uncutOf q k) q s b l x).log) most
+        → (uncut_of q k s b l).saved.accesses ≡ min (s.accesses + length (uncut_of q k s b l).log) most)
+        → (uncut_turn (uncut_of q k) q s b l x).saved.accesses ≡ min (s.accesses + length (uncut_turn (uncut_of q k) q s b l x).log) most
     go l Nothing ih = omega arith
     go l (Write r v) ih = step 0 b l ih
     go [] (Read r) ih = omega arith
@@ -42,7 +42,7 @@ counts q (suc k) s b l h = go l (accessOf q b s) (counts q k)
     go [] (Take i) ih = omega arith
     go (a ∷ l) (Take i) ih = step a (set b i (byte_of a)) l ih
 
-pub counts-accesses : (q : Request) (k : ℕ) (b l : List ℕ)
-    → (uncutOf q k (beginOf q) b l).saved.accesses ≡ min (length (uncutOf q k (beginOf q) b l).log) most
-unfolding beginOf
-counts-accesses q k b l = omega (arith, counts q k (beginOf q) b l (omega arith))
+pub counts_accesses : (q : Request) (k : ℕ) (b l : List ℕ)
+    → (uncut_of q k (begin_of q) b l).saved.accesses ≡ min (length (uncut_of q k (begin_of q) b l).log) most
+unfolding begin_of
+counts_accesses q k b l = omega (arith, counts q k (begin_of q) b l (omega arith))

@@ -12,41 +12,41 @@ pub only_yes : (c : Bool) {X : Type 0} → X → only c X
 only_yes true x = x
 only_yes false x = tt
 
-pub only-not : (c : Bool) (X : Type 0) → T (not c) → only c X
-only-not true X h = absurd h
-only-not false X h = tt
+pub only_not : (c : Bool) (X : Type 0) → T (not c) → only c X
+only_not true X h = absurd h
+only_not false X h = tt
 
-pub only-use : (c : Bool) (X : Type 0) → T c → only c X → X
-only-use true X h x = x
-only-use false X h x = absurd h
+pub only_use : (c : Bool) (X : Type 0) → T c → only c X → X
+only_use true X h x = x
+only_use false X h x = absurd h
 
 pub only_if : (c b : Bool) → T (not c || b) → only c (T b)
 only_if true b h = h
 only_if false b h = tt
 
-pub if-only : (c b : Bool) → only c (T b) → T (not c || b)
-if-only true b h = h
-if-only false b h = tt
+pub if_only : (c b : Bool) → only c (T b) → T (not c || b)
+if_only true b h = h
+if_only false b h = tt
 
-pub not-and : (a b : Bool) → T (not a) → T (not (a && b))
-not-and true b h = absurd h
-not-and false b h = tt
+pub not_and : (a b : Bool) → T (not a) → T (not (a && b))
+not_and true b h = absurd h
+not_and false b h = tt
 
-pub not-and-1 : (a b : Bool) → T (not b) → T (not (a && b))
-not-and-1 true b h = h
-not-and-1 false b h = tt
+pub not_and_1 : (a b : Bool) → T (not b) → T (not (a && b))
+not_and_1 true b h = h
+not_and_1 false b h = tt
 
 pub and_in : (a b : Bool) → T a → T b → T (a && b)
 and_in true b h g = g
 and_in false b h g = absurd h
 
-pub or-0 : (a b : Bool) → T a → T (a || b)
-or-0 true b h = tt
-or-0 false b h = absurd h
+pub or_0 : (a b : Bool) → T a → T (a || b)
+or_0 true b h = tt
+or_0 false b h = absurd h
 
-pub or-1 : (a b : Bool) → T b → T (a || b)
-or-1 true b h = tt
-or-1 false b h = h
+pub or_1 : (a b : Bool) → T b → T (a || b)
+or_1 true b h = tt
+or_1 false b h = h
 
 pub or_else : (a b : Bool) → T (a || b) → T (not a) → T b
 or_else true b h n = absurd n
@@ -57,18 +57,18 @@ implies a true t h = tt
 implies true false t h = t
 implies false false t h = h
 
-pub nor-0 : (a b : Bool) → T (not (a || b)) → T (not a)
-nor-0 true b h = h
-nor-0 false b h = tt
+pub nor_0 : (a b : Bool) → T (not (a || b)) → T (not a)
+nor_0 true b h = h
+nor_0 false b h = tt
 
-pub nor-1 : (a b : Bool) → T (not (a || b)) → T (not b)
-nor-1 true b h = absurd h
-nor-1 false b h = h
+pub nor_1 : (a b : Bool) → T (not (a || b)) → T (not b)
+nor_1 true b h = absurd h
+nor_1 false b h = h
 
 -- by a test: of what it chooses, and of anything
-pub by-test {ℓ} : {A : Type ℓ} (P : A → Type 0) (c : Bool) {x y : A} → (T c → P x) → (T (not c) → P y) → P (cond c x y)
-by-test P true f g = f tt
-by-test P false f g = g tt
+pub by_test {ℓ} : {A : Type ℓ} (P : A → Type 0) (c : Bool) {x y : A} → (T c → P x) → (T (not c) → P y) → P (cond c x y)
+by_test P true f g = f tt
+by_test P false f g = g tt
 
 pub both {ℓ} : (c : Bool) {X : Type ℓ} → (T c → X) → (T (not c) → X) → X
 both true f g = f tt

@@ -8,25 +8,25 @@ use mathlib.Core.List.{List, [], ◌∷◌, ◌++◌, append-nil}
 use lib.Dec.{T}
 use lib.ListN.{length, take, drop, length-append, replicate, drop_of_length-le}
 use lib.Seq.{take-nil}
-use Rattle.calls.specs.Bytes.{range, placesFrom, bytes_at, callerBytes, readPlaces, BytesOut, BytesIn}
+use Rattle.calls.specs.Bytes.{range, places_from, bytes_at, caller_bytes, read_places, BytesOut, BytesIn}
 use Rattle.calls.specs.Calls.{Request, transaction, receives, transmits}
 use Rattle.calls.specs.Pieces.{pieces_of}
 use Rattle.calls.specs.Refusals.{total}
-use Rattle.calls.specs.Run.{Uncut, uncutOf, putOut, takenIn}
-use Rattle.calls.specs.Steps.{beginOf}
+use Rattle.calls.specs.Run.{Uncut, uncut_of, put_out, taken_in}
+use Rattle.calls.specs.Steps.{begin_of}
 use Rattle.calls.proofs.Logic.{both}
-use Rattle.calls.proofs.Places.{is_true, is_false, storeAt, store_length, store_other, store-there, rising-all, transfer-places, bytes-all}
-use Rattle.calls.proofs.Bytes.{not-transmits, no-filling, ahead_of, Moves, whole, frontOf, run-moves, run-done}
+use Rattle.calls.proofs.Places.{is_true, is_false, store_at, store_length, store_other, store_there, rising_all, transfer_places, bytes_all}
+use Rattle.calls.proofs.Bytes.{not_transmits, no_filling, ahead_of, Moves, whole, front_of, run_moves, run_done}
 
 -- ---- The places of a call's pieces are those that document 01 names
 
 places : (q : Request) (w : Bool) →
-    placesFrom w 0 (pieces_of q) ≡
-    cond (transaction q.call) (placesFrom w 0 (pieces_of q)) (cond (cond w (receives q.call) (transmits q.call)) (range 0 q.size) [])
+    places_from w 0 (pieces_of q) ≡
+    cond (transaction q.call) (places_from w 0 (pieces_of q)) (cond (cond w (receives q.call) (transmits q.call)) (range 0 q.size) [])
 places q w =
     both (transaction q.call) (λ x. rw (is_true (transaction q.call) x)) (λ n.
     rw (is_false (transaction q.call) n)
-    (transfer-places q w n ∙ way w (receives q.call) (transmits q.call) (range 0 q.size) (not-transmits q)))
+    (transfer_places q w n ∙ way w (receives q.call) (transmits q.call) (range 0 q.size) (not_transmits q)))
   where
     way : (w r t : Bool) (ks : List ℕ) → (T r → T (not t)) →
         cond (r || t) (cond (beq r w) ks []) [] ≡ cond (cond w r t) ks []
@@ -38,13 +38,13 @@ places q w =
     way false false true ks h = refl
     way false false false ks h = refl
 
-caller : (q : Request) (b : List ℕ) → q.size ≡ length b → bytes_at b (placesFrom false 0 (pieces_of q)) ≡ callerBytes q b
-caller q b z = ap (bytes_at b) (places q false) ∙ go (transaction q.call) (transmits q.call) (placesFrom false 0 (pieces_of q))
+caller : (q : Request) (b : List ℕ) → q.size ≡ length b → bytes_at b (places_from false 0 (pieces_of q)) ≡ caller_bytes q b
+caller q b z = ap (bytes_at b) (places q false) ∙ go (transaction q.call) (transmits q.call) (places_from false 0 (pieces_of q))
   where
     go : (x t : Bool) (ks : List ℕ) →
         bytes_at b (cond x ks (cond t (range 0 q.size) [])) ≡ cond x (bytes_at b ks) (cond t b [])
     go true t ks = refl
-    go false true ks = rw z (bytes-all b)
+    go false true ks = rw z (bytes_all b)
     go false false ks = refl
 
 -- ---- Lists
@@ -64,55 +64,55 @@ first_part (x ∷ xs) ys (o ∷ own) m e =
     let n : suc (length xs) - suc (length own) ≡ length xs - length own = omega arith in
     rw n (ap₂ ◌∷◌ h (first_part xs ys own m i))
 
-length-bytes : (b ks : List ℕ) → length (bytes_at b ks) ≡ length ks
-length-bytes b [] = refl
-length-bytes b (k ∷ ks) = ap suc (length-bytes b ks)
+length_bytes : (b ks : List ℕ) → length (bytes_at b ks) ≡ length ks
+length_bytes b [] = refl
+length_bytes b (k ∷ ks) = ap suc (length_bytes b ks)
 
 -- ---- The theorems
 
 module _ (q : Request) (k : ℕ) (b l : List ℕ) (z : q.size ≡ length b) where
   abbrev U : Uncut
-  U = uncutOf q k (beginOf q) b l
+  U = uncut_of q k (begin_of q) b l
 
-  moves : Moves q (whole q b) (frontOf q U.saved U.buffer) (putOut U.log) (takenIn U.log)
-  moves = run-moves q k b l
+  moves : Moves q (whole q b) (front_of q U.saved U.buffer) (put_out U.log) (taken_in U.log)
+  moves = run_moves q k b l
 
   abbrev rest : List ℕ
   rest = bytes_at U.buffer (ahead_of false q U.saved)
 
-  out-then-rest : putOut U.log ++ rest ≡ callerBytes q b ++ replicate moves.zeros 0
-  out-then-rest = rw (← caller q b z) moves.puts
+  out_then_rest : put_out U.log ++ rest ≡ caller_bytes q b ++ replicate moves.zeros 0
+  out_then_rest = rw (← caller q b z) moves.puts
 
-  without-zeros : T (not (transmits q.call)) → putOut U.log ++ rest ≡ callerBytes q b
-  without-zeros n = out-then-rest ∙ rw (moves.filling n, append-nil)
+  without_zeros : T (not (transmits q.call)) → put_out U.log ++ rest ≡ caller_bytes q b
+  without_zeros n = out_then_rest ∙ rw (moves.filling n, append-nil)
 
-  pub bytes-out : BytesOut q b U
-  bytes-out = record {
-    in_order = first_part (putOut U.log) rest (callerBytes q b) moves.zeros out-then-rest;
-    no-zeros = λ n. omega (arith, ap length (without-zeros n), length-append (putOut U.log) rest);
-    done = λ x n e. sym (append-nil _) ∙ (rw (run-done q k b l x n e false) at (without-zeros (no-filling q x)));
+  pub bytes_out : BytesOut q b U
+  bytes_out = record {
+    in_order = first_part (put_out U.log) rest (caller_bytes q b) moves.zeros out_then_rest;
+    no_zeros = λ n. omega (arith, ap length (without_zeros n), length-append (put_out U.log) rest);
+    done = λ x n e. sym (append-nil _) ∙ (rw (run_done q k b l x n e false) at (without_zeros (no_filling q x)));
   }
 
-  buffer-is : U.buffer ≡ storeAt b (readPlaces q) (takenIn U.log)
+  buffer-is : U.buffer ≡ store_at b (read_places q) (taken_in U.log)
   buffer-is =
-      sym (rw append-nil at (moves.takes [])) ∙ ap (λ (ks : List ℕ). storeAt b ks (takenIn U.log)) (places q true)
+      sym (rw append-nil at (moves.takes [])) ∙ ap (λ (ks : List ℕ). store_at b ks (taken_in U.log)) (places q true)
 
-  in-then-rest : length (takenIn U.log) + length (ahead_of true q U.saved) ≡ length (readPlaces q)
-  in-then-rest = moves.count ∙ ap length (places q true)
+  in_then_rest : length (taken_in U.log) + length (ahead_of true q U.saved) ≡ length (read_places q)
+  in_then_rest = moves.count ∙ ap length (places q true)
 
-  pub bytes-in : (T (transaction q.call) → total q.operations ≡ q.size) → BytesIn q b U
-  bytes-in t = record {
+  pub bytes_in_holds : (T (transaction q.call) → total q.operations ≡ q.size) → BytesIn q b U
+  bytes_in_holds t = record {
     in_order = stored;
-    others = λ i h. rw buffer-is (store_other b (readPlaces q) (takenIn U.log) i h);
-    same_length = rw buffer-is (store_length b (readPlaces q) (takenIn U.log));
+    others = λ i h. rw buffer-is (store_other b (read_places q) (taken_in U.log) i h);
+    same_length = rw buffer-is (store_length b (read_places q) (taken_in U.log));
     done = λ x n e.
-        let h : length (bytes_at b (readPlaces q)) ≤ length (takenIn U.log) =
-        omega (arith, in-then-rest, ap length (run-done q k b l x n e true), length-bytes b (readPlaces q)) in
-        stored ∙ rw (drop_of_length-le (bytes_at b (readPlaces q)) h, append-nil);
+        let h : length (bytes_at b (read_places q)) ≤ length (taken_in U.log) =
+        omega (arith, in_then_rest, ap length (run_done q k b l x n e true), length_bytes b (read_places q)) in
+        stored ∙ rw (drop_of_length-le (bytes_at b (read_places q)) h, append-nil);
   }
     where
-      stored : bytes_at U.buffer (readPlaces q) ≡
-          takenIn U.log ++ drop (length (takenIn U.log)) (bytes_at b (readPlaces q))
+      stored : bytes_at U.buffer (read_places q) ≡
+          taken_in U.log ++ drop (length (taken_in U.log)) (bytes_at b (read_places q))
       stored =
-          rw buffer-is (store-there 0 b (readPlaces q) (takenIn U.log)
-          (rw (places q true) at (rising-all q true (length b) z t)) (omega (arith, in-then-rest)))
+          rw buffer-is (store_there 0 b (read_places q) (taken_in U.log)
+          (rw (places q true) at (rising_all q true (length b) z t)) (omega (arith, in_then_rest)))

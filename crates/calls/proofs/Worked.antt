@@ -4,14 +4,14 @@ use Prim.Native.Nat.{ℕ}
 use mathlib.Core.Path.{◌≡◌, refl}
 use mathlib.Core.List.{List, [], ◌∷◌}
 use Rattle.registers.specs.declared.Register.TheVariants.{Isr}
-use Rattle.fields.specs.Field.{bits_at, with_bits, getOf, put_of}
-use Rattle.calls.specs.Advances.{Advance, Follows, none, but, then, made, joined, given, bufferAfter, savedAfter}
-use Rattle.calls.specs.Calls.{Request, is_call, isKind, manual}
-use Rattle.calls.specs.Pieces.{piecesFor}
-use Rattle.calls.specs.Refusals.{requestOf, lookupOf, verdictOf, checkOf, groupTaken, accepts}
-use Rattle.calls.specs.Run.{Uncut, words_of, uncutOf, begunOf, advanceFrom, run_of, putOut}
-use Rattle.calls.specs.Steps.{accessOf, after_of, beginOf, freshAt, saved_at}
-use Rattle.calls.specs.Words.{cr2Of, alterOf}
+use Rattle.fields.specs.Field.{bits_at, with_bits, get_of, put_of}
+use Rattle.calls.specs.Advances.{Advance, Follows, none, but, then, made, joined, given, buffer_after, saved_after}
+use Rattle.calls.specs.Calls.{Request, is_call, is_kind, manual}
+use Rattle.calls.specs.Pieces.{pieces_for}
+use Rattle.calls.specs.Refusals.{request_of, lookup_of, verdict_of, check_of, group_taken, accepts}
+use Rattle.calls.specs.Run.{Uncut, words_of, uncut_of, begun_of, advance_from, run_of, put_out}
+use Rattle.calls.specs.Steps.{access_of, after_of, begin_of, fresh_at, saved_at}
+use Rattle.calls.specs.Words.{cr2_of, alter_of}
 use Rattle.calls.specs.declared.Advanced.{Advanced}
 use Rattle.calls.specs.declared.Call.TheVariants.{Transaction}
 use Rattle.calls.specs.declared.Description.{Description}
@@ -35,7 +35,7 @@ b = 0x12 ∷ 0x34 ∷ []
 
 -- the call after n accesses
 abbrev after : ℕ → ℕ → Step → SavedCall
-after n byte t = saved_at (freshAt 7 t) t 0 byte 0 0 (Done 0) n
+after n byte t = saved_at (fresh_at 7 t) t 0 byte 0 0 (Done 0) n
 
 abbrev gave : ℕ → ℕ → SavedCall → Report → Advanced
 gave used written s r = record { used = used; written = written; saved = s; report = r }
@@ -49,34 +49,34 @@ cut = record {
   answers = 1 ∷ 7 ∷ [];
   log = 0 ∷ 0 ∷ 0 ∷ 0 ∷ 9 ∷ [];
   result = gave 1 2 (after 2 0 StartControl) Full;
-  bufferLeft = b;
-  logLeft = 0x104 ∷ 0x020220A0 ∷ 0x18 ∷ 1 ∷ 9 ∷ [];
+  buffer_left = b;
+  log_left = 0x104 ∷ 0x020220A0 ∷ 0x18 ∷ 1 ∷ 9 ∷ [];
 }
 
 -- Three bytes are lent, which the operations do not make up: refused as 10.
-abbrev pub other-buffer : Advance
-other-buffer = record {
+abbrev pub other_buffer : Advance
+other_buffer = record {
   words = d;
   operations = ops;
   buffer = 1 ∷ 2 ∷ 3 ∷ [];
   answers = 7 ∷ [];
   log = 0 ∷ 0 ∷ [];
   result = gave 0 0 (after 2 0 StartControl) (Refused BadList);
-  bufferLeft = 1 ∷ 2 ∷ 3 ∷ [];
-  logLeft = 0 ∷ 0 ∷ [];
+  buffer_left = 1 ∷ 2 ∷ 3 ∷ [];
+  log_left = 0 ∷ 0 ∷ [];
 }
 
 -- Call 9 is described, which the saved call is not: refused as 13.
-abbrev pub other-call : Advance
-other-call = record {
+abbrev pub other_call : Advance
+other_call = record {
   words = plain 9 0;
   operations = [];
   buffer = b;
   answers = 7 ∷ [];
   log = 0 ∷ 0 ∷ [];
   result = gave 0 0 (after 2 0 StartControl) (Refused BadSavedCall);
-  bufferLeft = b;
-  logLeft = 0 ∷ 0 ∷ [];
+  buffer_left = b;
+  log_left = 0 ∷ 0 ∷ [];
 }
 
 -- The first byte goes out, and a read waits for its answer.
@@ -88,8 +88,8 @@ cut_again = record {
   answers = 0x020200A0 ∷ 3 ∷ [];
   log = 0 ∷ 0 ∷ 0 ∷ 0 ∷ 0 ∷ 0 ∷ 0 ∷ 0 ∷ [];
   result = gave 2 3 (after 5 1 Wait) (Waiting Isr);
-  bufferLeft = b;
-  logLeft = 0x04 ∷ 0x020200A0 ∷ 0x18 ∷ 3 ∷ 0x128 ∷ 0x12 ∷ 0 ∷ 0 ∷ [];
+  buffer_left = b;
+  log_left = 0x04 ∷ 0x020200A0 ∷ 0x18 ∷ 3 ∷ 0x128 ∷ 0x12 ∷ 0 ∷ 0 ∷ [];
 }
 
 -- The second byte, and the end; an answer and a place are left.
@@ -101,15 +101,15 @@ end = record {
   answers = 3 ∷ 0x21 ∷ 7 ∷ [];
   log = 0 ∷ 0 ∷ 0 ∷ 0 ∷ 0 ∷ 0 ∷ 0 ∷ 0 ∷ 0 ∷ 0 ∷ [];
   result = gave 2 4 (after 9 2 Ended) (Over (Done 0));
-  bufferLeft = b;
-  logLeft = 0x18 ∷ 3 ∷ 0x128 ∷ 0x34 ∷ 0x18 ∷ 0x21 ∷ 0x11C ∷ 0x20 ∷ 0 ∷ 0 ∷ [];
+  buffer_left = b;
+  log_left = 0x18 ∷ 3 ∷ 0x128 ∷ 0x34 ∷ 0x18 ∷ 0x21 ∷ 0x11C ∷ 0x20 ∷ 0 ∷ 0 ∷ [];
 }
 
 abbrev pub advances : List Advance
-advances = cut ∷ other-buffer ∷ other-call ∷ cut_again ∷ end ∷ []
+advances = cut ∷ other_buffer ∷ other_call ∷ cut_again ∷ end ∷ []
 
-pub worked : Follows d ops advances (begunOf d ops 2).saved b
-unfolding getOf bits_at put_of with_bits is_call isKind manual piecesFor lookupOf verdictOf checkOf groupTaken accepts begunOf advanceFrom run_of cr2Of alterOf accessOf after_of beginOf
+pub worked : Follows d ops advances (begun_of d ops 2).saved b
+unfolding get_of bits_at put_of with_bits is_call is_kind manual pieces_for lookup_of verdict_of check_of group_taken accepts begun_of advance_from run_of cr2_of alter_of access_of after_of begin_of
 worked =
     then refl refl refl refl tt
     (but refl tt
@@ -120,17 +120,17 @@ worked =
 -- the whole run, over the answers that they used
 abbrev whole : Uncut
 whole =
-    let q : Request = requestOf Transaction d ops 2 in
-    uncutOf q 9 (beginOf q) b (1 ∷ 0x020200A0 ∷ 3 ∷ 3 ∷ 0x21 ∷ [])
+    let q : Request = request_of Transaction d ops 2 in
+    uncut_of q 9 (begin_of q) b (1 ∷ 0x020200A0 ∷ 3 ∷ 3 ∷ 0x21 ∷ [])
 
 record Joined : Type 0 where
   accesses : made advances ≡ 9
   answers : given advances ≡ 1 ∷ 0x020200A0 ∷ 3 ∷ 3 ∷ 0x21 ∷ []
   words : joined advances ≡ words_of whole.log
-  buffer : bufferAfter advances b ≡ whole.buffer
-  bytes : putOut whole.log ≡ b
-  ended : savedAfter advances (begunOf d ops 2).saved ≡ after 9 2 Ended
+  buffer : buffer_after advances b ≡ whole.buffer
+  bytes : put_out whole.log ≡ b
+  ended : saved_after advances (begun_of d ops 2).saved ≡ after 9 2 Ended
 
-joined-is-whole : Joined
-unfolding getOf bits_at put_of with_bits is_call isKind manual piecesFor lookupOf verdictOf checkOf begunOf uncutOf cr2Of accessOf after_of beginOf
-joined-is-whole = record { accesses = refl; answers = refl; words = refl; buffer = refl; bytes = refl; ended = refl }
+joined_is_whole : Joined
+unfolding get_of bits_at put_of with_bits is_call is_kind manual pieces_for lookup_of verdict_of check_of begun_of uncut_of cr2_of access_of after_of begin_of
+joined_is_whole = record { accesses = refl; answers = refl; words = refl; buffer = refl; bytes = refl; ended = refl }

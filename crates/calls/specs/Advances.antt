@@ -4,9 +4,9 @@ use Rattle.std.specs.Prelude.{ℕ, ◌+◌, ◌*◌, ◌/◌, ◌<◌, ◌≡◌
 use Rattle.registers.specs.declared.Register.{Register}
 use Rattle.calls.specs.Calls.{Request}
 use Rattle.calls.specs.Next.{next_of}
-use Rattle.calls.specs.Refusals.{requestOf}
-use Rattle.calls.specs.Run.{Entry, words_of, uncutOf, noCall, asFinal, finalOf}
-use Rattle.calls.specs.Steps.{accessOf, beginOf, sameStep}
+use Rattle.calls.specs.Refusals.{request_of}
+use Rattle.calls.specs.Run.{Entry, words_of, uncut_of, no_call, as_final, final_of}
+use Rattle.calls.specs.Steps.{access_of, begin_of, same_step}
 use Rattle.calls.specs.declared.Advanced.{Advanced}
 use Rattle.calls.specs.declared.Description.{Description}
 use Rattle.calls.specs.declared.Next.TheVariants as next
@@ -25,23 +25,23 @@ pub record Advance : Type 0 where
   pub answers : List ℕ
   pub log : List ℕ
   pub result : Advanced
-  pub bufferLeft : List ℕ
-  pub logLeft : List ℕ
+  pub buffer_left : List ℕ
+  pub log_left : List ℕ
 
 -- It meets the contract of advance, on the saved call s.
 abbrev pub Meets : Advance → SavedCall → Type 0
 Meets A s =
-    asFinal A.result A.bufferLeft A.logLeft
-    ≡ finalOf A.words A.operations s A.buffer A.answers A.log
+    as_final A.result A.buffer_left A.log_left
+    ≡ final_of A.words A.operations s A.buffer A.answers A.log
 
-abbrev pub isRefusal : Report → Bool
-isRefusal (Over o) = false
-isRefusal Full = false
-isRefusal (Waiting r) = false
-isRefusal (Refused r) = true
+abbrev pub is_refusal : Report → Bool
+is_refusal (Over o) = false
+is_refusal Full = false
+is_refusal (Waiting r) = false
+is_refusal (Refused r) = true
 
 abbrev pub refused : Advance → Bool
-refused A = isRefusal A.result.report
+refused A = is_refusal A.result.report
 
 -- Each advance of a list gets the saved call as the last one left it. An accepted one gets the begun description and the
 -- begun buffer b as the last accepted one left it; a refused one may get anything else.
@@ -51,7 +51,7 @@ pub data Follows (d : Description) (ops : List ℕ) : List Advance → SavedCall
       Meets A s → T (refused A) → Follows d ops As A.result.saved b → Follows d ops (A ∷ As) s b
   then : {A : Advance} {As : List Advance} {s : SavedCall} {b : List ℕ} →
       Meets A s → A.words ≡ d → A.operations ≡ ops → A.buffer ≡ b → T (not (refused A)) →
-      Follows d ops As A.result.saved A.bufferLeft → Follows d ops (A ∷ As) s b
+      Follows d ops As A.result.saved A.buffer_left → Follows d ops (A ∷ As) s b
 
 -- What the advances did together: entries made, the words that they wrote, joined, the answers that they used, joined,
 -- the begun buffer and the saved call in the end, and the last one that was accepted.
@@ -61,19 +61,19 @@ made (A ∷ As) = A.result.written + made As
 
 abbrev pub joined : List Advance → List ℕ
 joined [] = []
-joined (A ∷ As) = take (2 * A.result.written) A.logLeft ++ joined As
+joined (A ∷ As) = take (2 * A.result.written) A.log_left ++ joined As
 
 abbrev pub given : List Advance → List ℕ
 given [] = []
 given (A ∷ As) = take A.result.used A.answers ++ given As
 
-abbrev pub bufferAfter : List Advance → List ℕ → List ℕ
-bufferAfter [] b = b
-bufferAfter (A ∷ As) b = bufferAfter As (cond (refused A) b A.bufferLeft)
+abbrev pub buffer_after : List Advance → List ℕ → List ℕ
+buffer_after [] b = b
+buffer_after (A ∷ As) b = buffer_after As (cond (refused A) b A.buffer_left)
 
-abbrev pub savedAfter : List Advance → SavedCall → SavedCall
-savedAfter [] s = s
-savedAfter (A ∷ As) s = savedAfter As A.result.saved
+abbrev pub saved_after : List Advance → SavedCall → SavedCall
+saved_after [] s = s
+saved_after (A ∷ As) s = saved_after As A.result.saved
 
 pub data Last : Type 0 where
   nobody : Last
@@ -84,17 +84,17 @@ or_else nobody true A = nobody
 or_else nobody false A = last A
 or_else (last B) r A = last B
 
-abbrev pub lastAccepted : List Advance → Last
-lastAccepted [] = nobody
-lastAccepted (A ∷ As) = or_else (lastAccepted As) (refused A) A
+abbrev pub last_accepted : List Advance → Last
+last_accepted [] = nobody
+last_accepted (A ∷ As) = or_else (last_accepted As) (refused A) A
 
 -- Why an accepted advance came back, by the call s and the buffer b after it: the call is over, with its outcome; or the
 -- next access found no place left; or it is a read, of the register that the report names, that had a place and no answer left.
 pub data Came (q : Request) (s : SavedCall) (b : List ℕ) (A : Advance) : Type 0 where
-  over : T (sameStep s.step Ended) → A.result.report ≡ Over s.outcome → Came q s b A
-  full : T (not (sameStep s.step Ended)) → A.result.written ≡ length A.log / 2 → A.result.report ≡ Full → Came q s b A
-  waiting : (r : Register) → T (not (sameStep s.step Ended)) → A.result.written < length A.log / 2 →
-      next_of (accessOf q b s) ≡ next.Read r → A.result.used ≡ length A.answers → A.result.report ≡ Waiting r → Came q s b A
+  over : T (same_step s.step Ended) → A.result.report ≡ Over s.outcome → Came q s b A
+  full : T (not (same_step s.step Ended)) → A.result.written ≡ length A.log / 2 → A.result.report ≡ Full → Came q s b A
+  waiting : (r : Register) → T (not (same_step s.step Ended)) → A.result.written < length A.log / 2 →
+      next_of (access_of q b s) ≡ next.Read r → A.result.used ≡ length A.answers → A.result.report ≡ Waiting r → Came q s b A
 
 abbrev pub LastCame : Request → SavedCall → List ℕ → Last → Type 0
 LastCame q s b nobody = Unit {0}
@@ -111,17 +111,17 @@ pub record Untouched (A : Advance) (s : SavedCall) : Type 0 where
   pub saved : A.result.saved ≡ s
   pub used : A.result.used ≡ 0
   pub written : A.result.written ≡ 0
-  pub buffer : A.bufferLeft ≡ A.buffer
-  pub log : A.logLeft ≡ A.log
+  pub buffer : A.buffer_left ≡ A.buffer
+  pub log : A.log_left ≡ A.log
 
 abbrev pub RefusedUntouched : List Advance → SavedCall → Type 0
 RefusedUntouched [] s = Unit {0}
 RefusedUntouched (A ∷ As) s = (T (refused A) → Untouched A s) × RefusedUntouched As A.result.saved
 
 -- the answers that a log's reads took, a read's code being below 0x100
-abbrev pub answersIn : List Entry → List ℕ
-answersIn [] = []
-answersIn (e ∷ es) = cond (ltb e.code 0x100) (e.value ∷ []) [] ++ answersIn es
+abbrev pub answers_in : List Entry → List ℕ
+answers_in [] = []
+answers_in (e ∷ es) = cond (ltb e.code 0x100) (e.value ∷ []) [] ++ answers_in es
 
 -- Demand 3 for the advances As after an accepted begin of q with the buffer b.
 pub record OneRun (q : Request) (b : List ℕ) (As : List Advance) : Type 0 where
@@ -129,18 +129,18 @@ pub record OneRun (q : Request) (b : List ℕ) (As : List Advance) : Type 0 wher
   pub log : List Entry
   pub count : length log ≡ made As
   pub words : words_of log ≡ joined As
-  pub answers : answersIn log ≡ given As
+  pub answers : answers_in log ≡ given As
   pub run : (rest : List ℕ) →
-      uncutOf q (made As) (beginOf q) b (given As ++ rest)
-      ≡ record { saved = savedAfter As (beginOf q); buffer = bufferAfter As b; log = log }
+      uncut_of q (made As) (begin_of q) b (given As ++ rest)
+      ≡ record { saved = saved_after As (begin_of q); buffer = buffer_after As b; log = log }
   -- an ended call stays as it is, whatever more accesses and answers it is given
-  pub stays : T (sameStep (savedAfter As (beginOf q)).step Ended) → (m : ℕ) (rest : List ℕ) →
-      uncutOf q (made As + m) (beginOf q) b (given As ++ rest)
-      ≡ record { saved = savedAfter As (beginOf q); buffer = bufferAfter As b; log = log }
+  pub stays : T (same_step (saved_after As (begin_of q)).step Ended) → (m : ℕ) (rest : List ℕ) →
+      uncut_of q (made As + m) (begin_of q) b (given As ++ rest)
+      ≡ record { saved = saved_after As (begin_of q); buffer = buffer_after As b; log = log }
   -- what the last accepted advance reported
-  pub came : LastCame q (savedAfter As (beginOf q)) (bufferAfter As b) (lastAccepted As)
+  pub came : LastCame q (saved_after As (begin_of q)) (buffer_after As b) (last_accepted As)
   pub accepted : NoneRefused q.words q.operations q.size As
-  pub untouched : RefusedUntouched As (beginOf q)
+  pub untouched : RefusedUntouched As (begin_of q)
 
 -- and after a refused one: every advance is refused, and nothing was done
 abbrev pub AllRefused : List Advance → Type 0
@@ -149,11 +149,11 @@ AllRefused (A ∷ As) = T (refused A) × AllRefused As
 
 pub record NoRun (b : List ℕ) (As : List Advance) : Type 0 where
   pub refused : AllRefused As
-  pub untouched : RefusedUntouched As noCall
+  pub untouched : RefusedUntouched As no_call
   pub made : made As ≡ 0
   pub joined : joined As ≡ []
-  pub buffer : bufferAfter As b ≡ b
+  pub buffer : buffer_after As b ≡ b
 
 abbrev pub CutAnywhere : Verdict → Description → List ℕ → List ℕ → List Advance → Type 0
-CutAnywhere (Accepted c) d ops b As = OneRun (requestOf c d ops (length b)) b As
+CutAnywhere (Accepted c) d ops b As = OneRun (request_of c d ops (length b)) b As
 CutAnywhere (Rejected r) d ops b As = NoRun b As

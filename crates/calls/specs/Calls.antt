@@ -16,83 +16,83 @@ use Rattle.calls.specs.declared.Configuration.TheVariants.{Unconfigured, Configu
 use Rattle.calls.specs.declared.Description.{Description}
 
 -- 8 to 13 mean AutoAck; adding 16 means ManualAck
-abbrev pub byAck : ℕ → Ack → ℕ
-byAck n AutoAck = n
-byAck n ManualAck = n + 16
+abbrev pub by_ack : ℕ → Ack → ℕ
+by_ack n AutoAck = n
+by_ack n ManualAck = n + 16
 
-abbrev pub callNumber : Call → ℕ
-callNumber New = 1
-callNumber TargetNew = 2
-callNumber ConfigureTargetAddresses = 3
-callNumber EnableTargetEvent = 4
-callNumber DisableTargetEvent = 5
-callNumber Reset = 6
-callNumber Transaction = 7
-callNumber (WaitForEvent a) = byAck 8 a
-callNumber (Read a) = byAck 9 a
-callNumber (Write a) = byAck 10 a
-callNumber (WaitForTargetRead a) = byAck 11 a
-callNumber (WaitForTargetWrite a) = byAck 12 a
-callNumber (WaitForStop a) = byAck 13 a
-callNumber AckTransfer = 14
-callNumber NackTransfer = 15
+abbrev pub call_number : Call → ℕ
+call_number New = 1
+call_number TargetNew = 2
+call_number ConfigureTargetAddresses = 3
+call_number EnableTargetEvent = 4
+call_number DisableTargetEvent = 5
+call_number Reset = 6
+call_number Transaction = 7
+call_number (WaitForEvent a) = by_ack 8 a
+call_number (Read a) = by_ack 9 a
+call_number (Write a) = by_ack 10 a
+call_number (WaitForTargetRead a) = by_ack 11 a
+call_number (WaitForTargetWrite a) = by_ack 12 a
+call_number (WaitForStop a) = by_ack 13 a
+call_number AckTransfer = 14
+call_number NackTransfer = 15
 
 -- The target's configuration, and what its setters change.
-abbrev pub configOf : ℕ → TargetConfig
-configOf own = record { own = own; secondary = NoSecondary; mask = Unmasked; mode = AddressMode7bit }
+abbrev pub config_of : ℕ → TargetConfig
+config_of own = record { own = own; secondary = NoSecondary; mask = Unmasked; mode = AddressMode7bit }
 
-abbrev pub withOwn : ℕ → TargetConfig → TargetConfig
-withOwn own t = record { own = own; secondary = t.secondary; mask = t.mask; mode = t.mode }
+abbrev pub with_own : ℕ → TargetConfig → TargetConfig
+with_own own t = record { own = own; secondary = t.secondary; mask = t.mask; mode = t.mode }
 
-abbrev pub withMode : AddressMode → TargetConfig → TargetConfig
-withMode mode t = record { own = t.own; secondary = t.secondary; mask = t.mask; mode = mode }
+abbrev pub with_mode : AddressMode → TargetConfig → TargetConfig
+with_mode mode t = record { own = t.own; secondary = t.secondary; mask = t.mask; mode = mode }
 
-abbrev pub withSecondary : ℕ → TargetConfig → TargetConfig
-withSecondary address t = record { own = t.own; secondary = Secondary address; mask = t.mask; mode = t.mode }
+abbrev pub with_secondary : ℕ → TargetConfig → TargetConfig
+with_secondary address t = record { own = t.own; secondary = Secondary address; mask = t.mask; mode = t.mode }
 
-abbrev pub withMask : ℕ → TargetConfig → TargetConfig
-withMask bits t = record { own = t.own; secondary = t.secondary; mask = Masked bits; mode = t.mode }
+abbrev pub with_mask : ℕ → TargetConfig → TargetConfig
+with_mask bits t = record { own = t.own; secondary = t.secondary; mask = Masked bits; mode = t.mode }
 
 -- it is that call
 unfoldable pub is_call : Call → Call → Bool
-is_call c x = eqb (callNumber c) (callNumber x)
+is_call c x = eqb (call_number c) (call_number x)
 
 -- it is of that kind, in either acknowledge mode
-unfoldable pub isKind : Call → (Ack → Call) → Bool
-isKind c kind = is_call c (kind AutoAck) || is_call c (kind ManualAck)
+unfoldable pub is_kind : Call → (Ack → Call) → Bool
+is_kind c kind = is_call c (kind AutoAck) || is_call c (kind ManualAck)
 
 abbrev pub transaction : Call → Bool
 transaction c = is_call c Transaction
 
 unfoldable pub manual : Call → Bool
-manual c = leb 16 (callNumber c)
+manual c = leb 16 (call_number c)
 
 -- the target calls that fill the buffer, those that put it out, and those that await an event first
 abbrev pub receives : Call → Bool
-receives c = isKind c Read || isKind c WaitForTargetRead
+receives c = is_kind c Read || is_kind c WaitForTargetRead
 
 abbrev pub transmits : Call → Bool
-transmits c = isKind c Write || isKind c WaitForTargetWrite
+transmits c = is_kind c Write || is_kind c WaitForTargetWrite
 
 -- 26 and 28, which count what they put out (document 02, R-6)
-abbrev pub manualWrite : Call → Bool
-manualWrite c = manual c && transmits c
+abbrev pub manual_write : Call → Bool
+manual_write c = manual c && transmits c
 
 abbrev pub eventful : Call → Bool
-eventful c = isKind c WaitForEvent || (isKind c WaitForTargetRead || (isKind c WaitForTargetWrite || isKind c WaitForStop))
+eventful c = is_kind c WaitForEvent || (is_kind c WaitForTargetRead || (is_kind c WaitForTargetWrite || is_kind c WaitForStop))
 
 -- what a description may have or lack: a configuration, and in it a secondary address
-abbrev pub isConfigured : Configuration → Bool
-isConfigured Unconfigured = false
-isConfigured (Configured t) = true
+abbrev pub is_configured : Configuration → Bool
+is_configured Unconfigured = false
+is_configured (Configured t) = true
 
-abbrev pub isSecondary : SecondaryAddress → Bool
-isSecondary NoSecondary = false
-isSecondary (Secondary address) = true
+abbrev pub is_secondary : SecondaryAddress → Bool
+is_secondary NoSecondary = false
+is_secondary (Secondary address) = true
 
-abbrev pub hasSecondary : Configuration → Bool
-hasSecondary Unconfigured = false
-hasSecondary (Configured t) = isSecondary t.secondary
+abbrev pub has_secondary : Configuration → Bool
+has_secondary Unconfigured = false
+has_secondary (Configured t) = is_secondary t.secondary
 
 -- A listed call with all that describes it: the words, the operation list, and the lent buffer's length.
 pub record Request : Type 0 where

@@ -2,10 +2,10 @@
 -- use with document 02, R-1. The first row that fits is given. Words that do not belong to the call are not looked at. Assumes
 -- nothing.
 use Rattle.std.specs.Prelude.{ℕ, ◌+◌, max, Bool, true, false, cond, not, ◌&&◌, ◌||◌, List, [], ◌∷◌, eqb, ltb, leb, length}
-use Rattle.fields.specs.Field.{place, getOf}
-use Rattle.calls.specs.Calls.{Request, callNumber, is_call, transaction, manual, manualWrite, receives, transmits, eventful, isConfigured, hasSecondary}
-use Rattle.calls.specs.Pieces.{operation-length, pieces_of, most_of, viewAt, view_of, byteThere}
-use Rattle.calls.specs.Steps.{sameStep}
+use Rattle.fields.specs.Field.{place, get_of}
+use Rattle.calls.specs.Calls.{Request, call_number, is_call, transaction, manual, manual_write, receives, transmits, eventful, is_configured, has_secondary}
+use Rattle.calls.specs.Pieces.{operation_length, pieces_of, most_of, view_at, view_of, byte_there}
+use Rattle.calls.specs.Steps.{same_step}
 use Rattle.calls.specs.declared.Ack.TheVariants.{AutoAck, ManualAck}
 use Rattle.calls.specs.declared.AddressMode.{AddressMode}
 use Rattle.calls.specs.declared.AddressMode.TheVariants.{AddressMode7bit, AddressMode10bit}
@@ -38,52 +38,52 @@ listed =
     ∷ WaitForEvent ManualAck ∷ Read ManualAck ∷ Write ManualAck ∷ WaitForTargetRead ManualAck ∷ WaitForTargetWrite ManualAck ∷ WaitForStop ManualAck
     ∷ []
 
-abbrev pub lookupIn : List Call → ℕ → Lookup
-lookupIn [] n = Unlisted
-lookupIn (c ∷ cs) n = cond (eqb n (callNumber c)) (Listed c) (lookupIn cs n)
+abbrev pub lookup_in : List Call → ℕ → Lookup
+lookup_in [] n = Unlisted
+lookup_in (c ∷ cs) n = cond (eqb n (call_number c)) (Listed c) (lookup_in cs n)
 
-unfoldable pub lookupOf : ℕ → Lookup
-lookupOf n = lookupIn listed n
+unfoldable pub lookup_of : ℕ → Lookup
+lookup_of n = lookup_in listed n
 
 -- 12, no such call: the number is not listed, calls 4 and 5 name none of the three listen kinds, or 2 and 3 have no
 -- configuration
-abbrev pub noSuchListenKind : Call → Description → Bool
-noSuchListenKind c d = (is_call c EnableTargetEvent || is_call c DisableTargetEvent) && ltb 2 d.listen
+abbrev pub no_such_listen_kind : Call → Description → Bool
+no_such_listen_kind c d = (is_call c EnableTargetEvent || is_call c DisableTargetEvent) && ltb 2 d.listen
 
-abbrev pub noConfiguration : Call → Description → Bool
-noConfiguration c d = (is_call c TargetNew || is_call c ConfigureTargetAddresses) && not (isConfigured d.config)
+abbrev pub no_configuration : Call → Description → Bool
+no_configuration c d = (is_call c TargetNew || is_call c ConfigureTargetAddresses) && not (is_configured d.config)
 
-abbrev pub noSuchCall : Call → Description → Bool
-noSuchCall c d = noSuchListenKind c d || noConfiguration c d
+abbrev pub no_such_call : Call → Description → Bool
+no_such_call c d = no_such_listen_kind c d || no_configuration c d
 
 -- 8, address: one that does not fit its seven or ten bits, or a mask of more than six bits
 abbrev pub widest : AddressMode → ℕ
 widest AddressMode7bit = 127
 widest AddressMode10bit = 1023
 
-abbrev pub tooWide : AddressMode → ℕ → Bool
-tooWide mode address = ltb (widest mode) address
+abbrev pub too_wide : AddressMode → ℕ → Bool
+too_wide mode address = ltb (widest mode) address
 
-abbrev pub secondaryWide : SecondaryAddress → Bool
-secondaryWide NoSecondary = false
-secondaryWide (Secondary address) = tooWide AddressMode7bit address
+abbrev pub secondary_wide : SecondaryAddress → Bool
+secondary_wide NoSecondary = false
+secondary_wide (Secondary address) = too_wide AddressMode7bit address
 
-abbrev pub maskWide : MaskBits → Bool
-maskWide Unmasked = false
-maskWide (Masked bits) = ltb 6 bits
+abbrev pub mask_wide : MaskBits → Bool
+mask_wide Unmasked = false
+mask_wide (Masked bits) = ltb 6 bits
 
-abbrev pub configWide : Configuration → Bool
-configWide Unconfigured = false
-configWide (Configured t) = tooWide t.mode t.own || (secondaryWide t.secondary || maskWide t.mask)
+abbrev pub config_wide : Configuration → Bool
+config_wide Unconfigured = false
+config_wide (Configured t) = too_wide t.mode t.own || (secondary_wide t.secondary || mask_wide t.mask)
 
-abbrev pub addressWide : Call → Description → Bool
-addressWide c d =
-    (transaction c && tooWide d.mode d.address)
-    || ((is_call c New || (is_call c TargetNew || is_call c ConfigureTargetAddresses)) && configWide d.config)
+abbrev pub address_wide : Call → Description → Bool
+address_wide c d =
+    (transaction c && too_wide d.mode d.address)
+    || ((is_call c New || (is_call c TargetNew || is_call c ConfigureTargetAddresses)) && config_wide d.config)
 
 -- 10, list: more than 64 operations, a word with bits that mean nothing, or lengths that do not make up the buffer
 abbrev pub length_of : ℕ → ℕ
-length_of o = getOf o operation-length
+length_of o = get_of o operation_length
 
 abbrev pub total : List ℕ → ℕ
 total [] = 0
@@ -93,34 +93,34 @@ abbrev pub any_of : (ℕ → Bool) → List ℕ → Bool
 any_of f [] = false
 any_of f (o ∷ os) = f o || any_of f os
 
-abbrev pub strangeBits : ℕ → Bool
-strangeBits o = not (eqb (getOf o (place 17 15)) 0)
+abbrev pub strange_bits : ℕ → Bool
+strange_bits o = not (eqb (get_of o (place 17 15)) 0)
 
-abbrev pub listWrong : Call → List ℕ → ℕ → Bool
-listWrong c ops n = transaction c && (ltb 64 (length ops) || (any_of strangeBits ops || not (eqb (total ops) n)))
+abbrev pub list_wrong : Call → List ℕ → ℕ → Bool
+list_wrong c ops n = transaction c && (ltb 64 (length ops) || (any_of strange_bits ops || not (eqb (total ops) n)))
 
 -- 11, buffer: an AutoAck transfer without a byte to move, or more bytes than sixteen bits count
-abbrev pub bufferWrong : Call → ℕ → Bool
-bufferWrong c n = (((receives c || transmits c) && not (manual c)) && eqb n 0) || ltb 65535 n
+abbrev pub buffer_wrong : Call → ℕ → Bool
+buffer_wrong c n = (((receives c || transmits c) && not (manual c)) && eqb n 0) || ltb 65535 n
 
-unfoldable pub verdictOf : Request → Verdict
-verdictOf q =
-    cond (noSuchCall q.call q.words) (Refused NoSuchCall)
-    (cond (addressWide q.call q.words) (Refused Address)
-    (cond (listWrong q.call q.operations q.size) (Refused BadList)
-    (cond (bufferWrong q.call q.size) (Refused Buffer)
+unfoldable pub verdict_of : Request → Verdict
+verdict_of q =
+    cond (no_such_call q.call q.words) (Refused NoSuchCall)
+    (cond (address_wide q.call q.words) (Refused Address)
+    (cond (list_wrong q.call q.operations q.size) (Refused BadList)
+    (cond (buffer_wrong q.call q.size) (Refused Buffer)
     (Accepted q.call))))
 
-abbrev pub requestOf : Call → Description → List ℕ → ℕ → Request
-requestOf c d ops n = record { call = c; words = d; operations = ops; size = n }
+abbrev pub request_of : Call → Description → List ℕ → ℕ → Request
+request_of c d ops n = record { call = c; words = d; operations = ops; size = n }
 
 -- what begin and advance both look at: description, operation list, the lent buffer's length
-abbrev pub verdictBy : Lookup → Description → List ℕ → ℕ → Verdict
-verdictBy (Listed c) d ops n = verdictOf (requestOf c d ops n)
-verdictBy Unlisted d ops n = Refused NoSuchCall
+abbrev pub verdict_by : Lookup → Description → List ℕ → ℕ → Verdict
+verdict_by (Listed c) d ops n = verdict_of (request_of c d ops n)
+verdict_by Unlisted d ops n = Refused NoSuchCall
 
-unfoldable pub checkOf : Description → List ℕ → ℕ → Verdict
-checkOf d ops n = verdictBy (lookupOf d.call) d ops n
+unfoldable pub check_of : Description → List ℕ → ℕ → Verdict
+check_of d ops n = verdict_by (lookup_of d.call) d ops n
 
 -- ---- 13, saved call: its number is not the described call's; or it has not ended and stands at a step that this call never
 -- takes, at a piece that is not there (a call without pieces counts as having an empty one), at a byte number that no run
@@ -130,17 +130,17 @@ checkOf d ops n = verdictBy (lookupOf d.call) d ops n
 pub data Group : Type 0 where
   any starts move stop errors nack timing own second enable reset events blocks peOff peOn listen nackSet reloadOff manualEvents : Group
 
-abbrev pub modifyGroup : Modify → Group
-modifyGroup PeOff = peOff
-modifyGroup PeOn = peOn
-modifyGroup Listen = listen
-modifyGroup NackSet = nackSet
-modifyGroup ReloadOff = reloadOff
-modifyGroup SbcOff = manualEvents
-modifyGroup ReloadClear = manualEvents
-modifyGroup SbcOn = manualEvents
-modifyGroup ReloadOn = manualEvents
-modifyGroup NbytesSet = blocks
+abbrev pub modify_group : Modify → Group
+modify_group PeOff = peOff
+modify_group PeOn = peOn
+modify_group Listen = listen
+modify_group NackSet = nackSet
+modify_group ReloadOff = reloadOff
+modify_group SbcOff = manualEvents
+modify_group ReloadClear = manualEvents
+modify_group SbcOn = manualEvents
+modify_group ReloadOn = manualEvents
+modify_group NbytesSet = blocks
 
 abbrev pub group_of : Step → Group
 group_of Ended = any
@@ -169,47 +169,47 @@ group_of EventFlush = events
 group_of EventClear = events
 group_of FindAddress = events
 group_of TransferClear = blocks
-group_of (ModifyRead m) = modifyGroup m
-group_of (ModifyWrite m) = modifyGroup m
+group_of (ModifyRead m) = modify_group m
+group_of (ModifyWrite m) = modify_group m
 
 -- which groups a call takes; a call with no piece takes no step that moves bytes
-unfoldable pub groupTaken : Call → Description → Bool → Group → Bool
-groupTaken c d nonempty any = true
-groupTaken c d nonempty starts = transaction c && nonempty
-groupTaken c d nonempty move = (transaction c || (receives c || transmits c)) && nonempty
-groupTaken c d nonempty stop = eventful c || (transaction c && nonempty)
-groupTaken c d nonempty errors = eventful c || ((transaction c || (receives c || transmits c)) && nonempty)
-groupTaken c d nonempty nack = (transaction c || transmits c) && nonempty
-groupTaken c d nonempty timing = is_call c New || is_call c TargetNew
-groupTaken c d nonempty own = is_call c ConfigureTargetAddresses || ((is_call c New || is_call c TargetNew) && isConfigured d.config)
-groupTaken c d nonempty second = (is_call c New || (is_call c TargetNew || is_call c ConfigureTargetAddresses)) && hasSecondary d.config
-groupTaken c d nonempty enable = is_call c New
-groupTaken c d nonempty reset = is_call c Reset
-groupTaken c d nonempty events = eventful c
-groupTaken c d nonempty blocks = (manual c && (receives c || transmits c)) && nonempty
-groupTaken c d nonempty peOff = is_call c New || (is_call c TargetNew || is_call c Reset)
-groupTaken c d nonempty peOn = is_call c TargetNew || is_call c Reset
-groupTaken c d nonempty listen = is_call c EnableTargetEvent || is_call c DisableTargetEvent
-groupTaken c d nonempty nackSet = is_call c NackTransfer || ((receives c && not (manual c)) && nonempty)
-groupTaken c d nonempty reloadOff = is_call c AckTransfer || is_call c NackTransfer
-groupTaken c d nonempty manualEvents = manual c && eventful c
+unfoldable pub group_taken : Call → Description → Bool → Group → Bool
+group_taken c d nonempty any = true
+group_taken c d nonempty starts = transaction c && nonempty
+group_taken c d nonempty move = (transaction c || (receives c || transmits c)) && nonempty
+group_taken c d nonempty stop = eventful c || (transaction c && nonempty)
+group_taken c d nonempty errors = eventful c || ((transaction c || (receives c || transmits c)) && nonempty)
+group_taken c d nonempty nack = (transaction c || transmits c) && nonempty
+group_taken c d nonempty timing = is_call c New || is_call c TargetNew
+group_taken c d nonempty own = is_call c ConfigureTargetAddresses || ((is_call c New || is_call c TargetNew) && is_configured d.config)
+group_taken c d nonempty second = (is_call c New || (is_call c TargetNew || is_call c ConfigureTargetAddresses)) && has_secondary d.config
+group_taken c d nonempty enable = is_call c New
+group_taken c d nonempty reset = is_call c Reset
+group_taken c d nonempty events = eventful c
+group_taken c d nonempty blocks = (manual c && (receives c || transmits c)) && nonempty
+group_taken c d nonempty peOff = is_call c New || (is_call c TargetNew || is_call c Reset)
+group_taken c d nonempty peOn = is_call c TargetNew || is_call c Reset
+group_taken c d nonempty listen = is_call c EnableTargetEvent || is_call c DisableTargetEvent
+group_taken c d nonempty nackSet = is_call c NackTransfer || ((receives c && not (manual c)) && nonempty)
+group_taken c d nonempty reloadOff = is_call c AckTransfer || is_call c NackTransfer
+group_taken c d nonempty manualEvents = manual c && eventful c
 
 -- the call has a piece
-abbrev pub hasPieces : Request → Bool
-hasPieces q = (viewAt (pieces_of q) (most_of q) 0).nonempty
+abbrev pub has_pieces : Request → Bool
+has_pieces q = (view_at (pieces_of q) (most_of q) 0).nonempty
 
-abbrev pub takesGroup : Request → Group → Bool
-takesGroup q g = groupTaken q.call q.words (hasPieces q) g
+abbrev pub takes_group : Request → Group → Bool
+takes_group q g = group_taken q.call q.words (has_pieces q) g
 
 abbrev pub takes : Request → Step → Bool
-takes q t = takesGroup q (group_of t)
+takes q t = takes_group q (group_of t)
 
 unfoldable pub accepts : Request → SavedCall → Bool
 accepts q s =
-    eqb s.call (callNumber q.call) &&
-    (sameStep s.step Ended ||
+    eqb s.call (call_number q.call) &&
+    (same_step s.step Ended ||
     (takes q s.step &&
     (ltb s.piece (max 1 (length (pieces_of q))) &&
     (leb s.byte ((view_of q s).size + 1) &&
-    ((not (sameStep s.step Byte) || byteThere q.call (view_of q s) s) &&
-    (not (manualWrite q.call) || leb s.out (most_of q)))))))
+    ((not (same_step s.step Byte) || byte_there q.call (view_of q s) s) &&
+    (not (manual_write q.call) || leb s.out (most_of q)))))))

@@ -1,14 +1,14 @@
 -- What every call does, one register access at a time: the access of each step, and what each answer leads to.
 -- Sections of document 01 are named at the tables; registers, fields and flags are RM0492's. Assumes nothing.
 use Rattle.std.specs.Prelude.{ℕ, ◌+◌, ◌-◌, ◌*◌, min, Bool, true, false, cond, not, ◌&&◌, ◌||◌, List, [], ◌∷◌, ◌++◌, map, eqb, ltb, get_or}
-use Rattle.fields.specs.Field.{Place, place, getOf, flagOf, mark_of}
-use Rattle.registers.specs.Map.{resetOf}
-use Rattle.registers.specs.Places.{CR1-PE, CR1-ANFOFF, CR2-START, OAR1-OA1MODE, OAR1-OA1, ISR-TXE, ISR-TXIS, ISR-RXNE, ISR-ADDR, ISR-NACKF, ISR-STOPF, ISR-TC, ISR-TCR, ISR-BERR, ISR-ARLO, ISR-DIR, ISR-ADDCODE, ICR-ADDRCF, ICR-NACKCF, ICR-STOPCF, ICR-BERRCF, ICR-ARLOCF}
+use Rattle.fields.specs.Field.{Place, place, get_of, flag_of, mark_of}
+use Rattle.registers.specs.Map.{reset_of}
+use Rattle.registers.specs.Places.{CR1_PE, CR1_ANFOFF, CR2_START, OAR1_OA1MODE, OAR1_OA1, ISR_TXE, ISR_TXIS, ISR_RXNE, ISR_ADDR, ISR_NACKF, ISR_STOPF, ISR_TC, ISR_TCR, ISR_BERR, ISR_ARLO, ISR_DIR, ISR_ADDCODE, ICR_ADDRCF, ICR_NACKCF, ICR_STOPCF, ICR_BERRCF, ICR_ARLOCF}
 use Rattle.registers.specs.declared.Register.TheVariants.{Cr1, Cr2, Oar1, Oar2, Timingr, Isr, Icr, Txdr}
-use Rattle.calls.specs.Calls.{Request, callNumber, is_call, isKind, transaction, manual, receives, transmits, eventful, isConfigured, hasSecondary}
-use Rattle.calls.specs.Outcomes.{isDone, isEventRead, outcomeValue, readdressed}
-use Rattle.calls.specs.Pieces.{pieces_of, most_of, viewAt, view_of, byteThere}
-use Rattle.calls.specs.Words.{cr2Of, timingrOf, oar1Of, oar2Of, registerOf, alterOf}
+use Rattle.calls.specs.Calls.{Request, call_number, is_call, is_kind, transaction, manual, receives, transmits, eventful, is_configured, has_secondary}
+use Rattle.calls.specs.Outcomes.{is_done, is_event_read, outcome_value, readdressed}
+use Rattle.calls.specs.Pieces.{pieces_of, most_of, view_at, view_of, byte_there}
+use Rattle.calls.specs.Words.{cr2_of, timingr_of, oar1_of, oar2_of, register_of, alter_of}
 use Rattle.calls.specs.declared.Call.{Call}
 use Rattle.calls.specs.declared.Description.{Description}
 use Rattle.calls.specs.declared.Modify.{Modify}
@@ -31,224 +31,224 @@ use Rattle.calls.specs.declared.Call.TheVariants.{New, TargetNew, ConfigureTarge
 
 -- plain writes: ICR with one flag to clear; ISR with TXE, which empties TXDR; CR1 with the peripheral and its filter on
 abbrev pub clears : Place → Access
-clears p = Write Icr (mark_of (resetOf Icr) p true)
+clears p = Write Icr (mark_of (reset_of Icr) p true)
 
 abbrev pub flushes : Access
-flushes = Write Isr (mark_of (resetOf Isr) ISR-TXE true)
+flushes = Write Isr (mark_of (reset_of Isr) ISR_TXE true)
 
 abbrev pub enables : Access
-enables = Write Cr1 (mark_of (mark_of (resetOf Cr1) CR1-PE true) CR1-ANFOFF false)
+enables = Write Cr1 (mark_of (mark_of (reset_of Cr1) CR1_PE true) CR1_ANFOFF false)
 
 -- the byte to put out: the buffer's, or a filling zero
-abbrev pub byteOut : View → List ℕ → SavedCall → ℕ
-byteOut v b s = cond (ltb s.byte v.size) (get_or b (v.start + s.byte) 0) 0
+abbrev pub byte_out : View → List ℕ → SavedCall → ℕ
+byte_out v b s = cond (ltb s.byte v.size) (get_or b (v.start + s.byte) 0) 0
 
-abbrev pub byteAccess : View → List ℕ → SavedCall → Access
-byteAccess v b s = cond v.reads (Take (v.start + s.byte)) (Write Txdr (byteOut v b s))
+abbrev pub byte_access : View → List ℕ → SavedCall → Access
+byte_access v b s = cond v.reads (Take (v.start + s.byte)) (Write Txdr (byte_out v b s))
 
-abbrev pub accessAt : Call → Description → View → List ℕ → SavedCall → Step → Access
-accessAt c d v b s Ended = Nothing
-accessAt c d v b s Begin = Write Cr2 (cr2Of d v (not (eqb s.piece 0)))
-accessAt c d v b s StartStatus = Read Isr
-accessAt c d v b s StartControl = Read Cr2
-accessAt c d v b s Wait = Read Isr
-accessAt c d v b s Byte = byteAccess v b s
-accessAt c d v b s StopClear = clears ICR-STOPCF
-accessAt c d v b s BusClear = clears ICR-BERRCF
-accessAt c d v b s ArbitrationClear = clears ICR-ARLOCF
-accessAt c d v b s NackClear = clears ICR-NACKCF
-accessAt c d v b s FlushTxis = Read Isr
-accessAt c d v b s FlushByte = Write Txdr 0
-accessAt c d v b s FlushTxe = Read Isr
-accessAt c d v b s Flush = flushes
-accessAt c d v b s Timing = Write Timingr (timingrOf c d)
-accessAt c d v b s Own = Write Oar1 (oar1Of d.config)
-accessAt c d v b s Secondary = Write Oar2 (oar2Of d.config)
-accessAt c d v b s Enable = enables
-accessAt c d v b s Delay1 = Read Cr1
-accessAt c d v b s Delay2 = Read Cr1
-accessAt c d v b s Disabled = Read Cr1
-accessAt c d v b s Event = Read Isr
-accessAt c d v b s EventFlush = flushes
-accessAt c d v b s EventClear = clears ICR-ADDRCF
-accessAt c d v b s Address = Read Oar1
-accessAt c d v b s TransferClear = clears ICR-ADDRCF
-accessAt c d v b s (ModifyRead m) = Read (registerOf d m)
-accessAt c d v b s (ModifyWrite m) = Write (registerOf d m) (alterOf c d v s.word m)
+abbrev pub access_at : Call → Description → View → List ℕ → SavedCall → Step → Access
+access_at c d v b s Ended = Nothing
+access_at c d v b s Begin = Write Cr2 (cr2_of d v (not (eqb s.piece 0)))
+access_at c d v b s StartStatus = Read Isr
+access_at c d v b s StartControl = Read Cr2
+access_at c d v b s Wait = Read Isr
+access_at c d v b s Byte = byte_access v b s
+access_at c d v b s StopClear = clears ICR_STOPCF
+access_at c d v b s BusClear = clears ICR_BERRCF
+access_at c d v b s ArbitrationClear = clears ICR_ARLOCF
+access_at c d v b s NackClear = clears ICR_NACKCF
+access_at c d v b s FlushTxis = Read Isr
+access_at c d v b s FlushByte = Write Txdr 0
+access_at c d v b s FlushTxe = Read Isr
+access_at c d v b s Flush = flushes
+access_at c d v b s Timing = Write Timingr (timingr_of c d)
+access_at c d v b s Own = Write Oar1 (oar1_of d.config)
+access_at c d v b s Secondary = Write Oar2 (oar2_of d.config)
+access_at c d v b s Enable = enables
+access_at c d v b s Delay1 = Read Cr1
+access_at c d v b s Delay2 = Read Cr1
+access_at c d v b s Disabled = Read Cr1
+access_at c d v b s Event = Read Isr
+access_at c d v b s EventFlush = flushes
+access_at c d v b s EventClear = clears ICR_ADDRCF
+access_at c d v b s Address = Read Oar1
+access_at c d v b s TransferClear = clears ICR_ADDRCF
+access_at c d v b s (ModifyRead m) = Read (register_of d m)
+access_at c d v b s (ModifyWrite m) = Write (register_of d m) (alter_of c d v s.word m)
 
-unfoldable pub accessOf : Request → List ℕ → SavedCall → Access
-accessOf q b s = accessAt q.call q.words (view_of q s) b s s.step
+unfoldable pub access_of : Request → List ℕ → SavedCall → Access
+access_of q b s = access_at q.call q.words (view_of q s) b s s.step
 
 -- ---- What follows (`a` is the answer to a read)
 
 -- Errors come before all else that a status word says, BERR before ARLO (section "Leaves").
-abbrev pub errorOr : ℕ → Effect → Effect
-errorOr a t = cond (flagOf a ISR-BERR) (Goes BusClear) (cond (flagOf a ISR-ARLO) (Goes ArbitrationClear) t)
+abbrev pub error_or : ℕ → Effect → Effect
+error_or a t = cond (flag_of a ISR_BERR) (Goes BusClear) (cond (flag_of a ISR_ARLO) (Goes ArbitrationClear) t)
 
-abbrev pub nackOr : ℕ → Effect → Effect
-nackOr a t = cond (flagOf a ISR-NACKF) (Goes NackClear) t
+abbrev pub nack_or : ℕ → Effect → Effect
+nack_or a t = cond (flag_of a ISR_NACKF) (Goes NackClear) t
 
 -- The first error of a transaction is kept while it waits for STOPF, an error in that wait takes its place and ends it
 -- (section "Transaction"). Any error ends another call at once.
 abbrev pub failing : Call → SavedCall → Bool
-failing c s = transaction c && not (isDone s.outcome)
+failing c s = transaction c && not (is_done s.outcome)
 
-abbrev pub failOf : Call → SavedCall → Outcome → Effect
-failOf c s o = cond (transaction c && isDone s.outcome) (Fails o) (Ends o)
+abbrev pub fail_of : Call → SavedCall → Outcome → Effect
+fail_of c s o = cond (transaction c && is_done s.outcome) (Fails o) (Ends o)
 
 -- The bytes that a target has put out, held at the buffer's length + 1: a manual write carries their number, an automatic one is
 -- one piece, whose byte number it is (document 02, R-6).
-abbrev pub bytesPut : Call → SavedCall → ℕ
-bytesPut c s = cond (manual c) s.out s.byte
+abbrev pub bytes_put : Call → SavedCall → ℕ
+bytes_put c s = cond (manual c) s.out s.byte
 
 -- The bytes that a target transfer counts: of a read all that came in, since all earlier blocks are whole; of a write one less than
 -- were put out, at least 0 and, as they are held, at most the buffer's length.
 abbrev pub count_of : Call → SavedCall → ℕ
-count_of c s = cond (receives c) (255 * s.piece + s.byte) (bytesPut c s - 1)
+count_of c s = cond (receives c) (255 * s.piece + s.byte) (bytes_put c s - 1)
 
 -- An automatic read sets NACK in CR2 once it is full or was stopped (section "Target side").
-abbrev pub transferOver : Call → SavedCall → Effect
-transferOver c s = cond (receives c && not (manual c)) (Goes (ModifyRead NackSet)) (Ends (Done (count_of c s)))
+abbrev pub transfer_over : Call → SavedCall → Effect
+transfer_over c s = cond (receives c && not (manual c)) (Goes (ModifyRead NackSet)) (Ends (Done (count_of c s)))
 
-abbrev pub notAcknowledged : Call → SavedCall → Effect
-notAcknowledged c s = cond (transaction c) (failOf c s Nack) (transferOver c s)
+abbrev pub not_acknowledged : Call → SavedCall → Effect
+not_acknowledged c s = cond (transaction c) (fail_of c s Nack) (transfer_over c s)
 
 -- into a piece: a transaction writes CR2, a manual transfer sets NBYTES, an automatic one just waits
-abbrev pub entryStep : Call → Step
-entryStep c = cond (transaction c) Begin (cond (manual c) (ModifyRead NbytesSet) Wait)
+abbrev pub entry_step : Call → Step
+entry_step c = cond (transaction c) Begin (cond (manual c) (ModifyRead NbytesSet) Wait)
 
 -- from an event into the transfer, if there is any piece
-abbrev pub transferOf : Call → Bool → Effect
-transferOf c nonempty = cond nonempty (Enters (entryStep c)) (Ends (Done 0))
+abbrev pub transfer_of : Call → Bool → Effect
+transfer_of c nonempty = cond nonempty (Enters (entry_step c)) (Ends (Done 0))
 
 -- What a complete event means to each call (section "Target side"): 8 reports it, 12 goes on from a read and 11 from a write,
 -- 13 ends at a stop; every other event is the wrong one.
-abbrev pub eventOf : Call → Bool → SavedCall → Effect
-eventOf c nonempty s =
-    cond (isKind c WaitForEvent) (Ends s.outcome)
-    (cond (isEventRead s.outcome) (cond (transmits c) (transferOf c nonempty) (Ends ExpectedWrite))
-    (cond (receives c) (transferOf c nonempty) (Ends ExpectedRead)))
+abbrev pub event_of : Call → Bool → SavedCall → Effect
+event_of c nonempty s =
+    cond (is_kind c WaitForEvent) (Ends s.outcome)
+    (cond (is_event_read s.outcome) (cond (transmits c) (transfer_of c nonempty) (Ends ExpectedWrite))
+    (cond (receives c) (transfer_of c nonempty) (Ends ExpectedRead)))
 
-abbrev pub stopEvent : Call → Effect
-stopEvent c = cond (isKind c WaitForEvent) (Ends EventStop) (cond (isKind c WaitForStop) (Ends (Done 0)) (Ends Stopped))
+abbrev pub stop_event : Call → Effect
+stop_event c = cond (is_kind c WaitForEvent) (Ends EventStop) (cond (is_kind c WaitForStop) (Ends (Done 0)) (Ends Stopped))
 
 -- ManualAck clears ADDR now if the controller reads; if it writes, byte control is set up first (section "Target side").
-abbrev pub addressFound : Call → Bool → SavedCall → Effect
-addressFound c nonempty s =
+abbrev pub address_found : Call → Bool → SavedCall → Effect
+address_found c nonempty s =
     cond (manual c)
-    (cond (isEventRead s.outcome) (Goes EventClear) (Goes (ModifyRead SbcOn)))
-    (eventOf c nonempty s)
+    (cond (is_event_read s.outcome) (Goes EventClear) (Goes (ModifyRead SbcOn)))
+    (event_of c nonempty s)
 
 -- A ten-bit header, 0x78 under the mask 0x7C, has 30 in bits 2 to 6 of ADDCODE; whether it is one, OAR1 says.
-abbrev pub tenBitHeader : ℕ → Bool
-tenBitHeader code = eqb (getOf code (place 2 5)) 30
+abbrev pub ten_bit_header : ℕ → Bool
+ten_bit_header code = eqb (get_of code (place 2 5)) 30
 
-abbrev pub findAddress : Call → Bool → SavedCall → Effect
-findAddress c nonempty s = cond (tenBitHeader (outcomeValue s.outcome)) (Goes Address) (addressFound c nonempty s)
+abbrev pub find_address : Call → Bool → SavedCall → Effect
+find_address c nonempty s = cond (ten_bit_header (outcome_value s.outcome)) (Goes Address) (address_found c nonempty s)
 
 -- An address match with a byte left in TXDR empties it first. Then AutoAck clears ADDR, ManualAck clears SBC.
-abbrev pub clearStep : Call → Step
-clearStep c = cond (manual c) (ModifyRead SbcOff) EventClear
+abbrev pub clear_step : Call → Step
+clear_step c = cond (manual c) (ModifyRead SbcOff) EventClear
 
-abbrev pub addressEvent : Call → ℕ → Outcome → Effect
-addressEvent c a o = cond (flagOf a ISR-TXE) (Notes o (clearStep c)) (Notes o EventFlush)
+abbrev pub address_event : Call → ℕ → Outcome → Effect
+address_event c a o = cond (flag_of a ISR_TXE) (Notes o (clear_step c)) (Notes o EventFlush)
 
-abbrev pub eventIn : Call → ℕ → Effect
-eventIn c a =
-    errorOr a
-    (cond (flagOf a ISR-ADDR)
-    (cond (flagOf a ISR-DIR) (addressEvent c a (EventRead (getOf a ISR-ADDCODE))) (addressEvent c a (EventWrite (getOf a ISR-ADDCODE))))
-    (cond (flagOf a ISR-STOPF) (Goes StopClear) (Goes Event)))
+abbrev pub event_in : Call → ℕ → Effect
+event_in c a =
+    error_or a
+    (cond (flag_of a ISR_ADDR)
+    (cond (flag_of a ISR_DIR) (address_event c a (EventRead (get_of a ISR_ADDCODE))) (address_event c a (EventWrite (get_of a ISR_ADDCODE))))
+    (cond (flag_of a ISR_STOPF) (Goes StopClear) (Goes Event)))
 
 -- The flag that WAIT awaits: STOPF after an error; for a byte RXNE or TXIS; at an operation's end STOPF after the last, TCR
 -- before one of the same direction, else TC.
 abbrev pub awaited : Call → View → SavedCall → Flag
 awaited c v s =
     cond (failing c s) Stopf
-    (cond (byteThere c v s) (cond v.reads Rxne Txis)
+    (cond (byte_there c v s) (cond v.reads Rxne Txis)
     (cond (transaction c) (cond v.last Stopf (cond v.same Tcr Tc))
     Never))
 
 -- A byte that came in is taken before a stop or a new address is looked at, and NACKF not at all (section "Leaves").
-abbrev pub stopOr : Call → SavedCall → ℕ → Effect
-stopOr c s a =
-    cond (flagOf a ISR-STOPF || flagOf a ISR-ADDR)
-    (cond (transaction c) (failOf c s Stopped) (transferOver c s))
+abbrev pub stop_or : Call → SavedCall → ℕ → Effect
+stop_or c s a =
+    cond (flag_of a ISR_STOPF || flag_of a ISR_ADDR)
+    (cond (transaction c) (fail_of c s Stopped) (transfer_over c s))
     (Goes Wait)
 
-abbrev pub goesIf : Bool → Step → Effect
-goesIf flag t = cond flag (Goes t) (Goes Wait)
+abbrev pub goes_if : Bool → Step → Effect
+goes_if flag t = cond flag (Goes t) (Goes Wait)
 
-abbrev pub nextIf : Bool → Effect
-nextIf flag = cond flag (Next Begin) (Goes Wait)
+abbrev pub next_if : Bool → Effect
+next_if flag = cond flag (Next Begin) (Goes Wait)
 
 -- NACKF is looked at before TXIS, and before the flag of every wait at an operation's end (section "Leaves").
-abbrev pub waitAt : Call → View → SavedCall → ℕ → Flag → Effect
-waitAt c v s a Rxne = cond (flagOf a ISR-RXNE) (Goes Byte) (stopOr c s a)
-waitAt c v s a Txis = nackOr a (goesIf (flagOf a ISR-TXIS) Byte)
-waitAt c v s a Tc = nackOr a (nextIf (flagOf a ISR-TC))
-waitAt c v s a Tcr = nackOr a (nextIf (flagOf a ISR-TCR))
-waitAt c v s a Stopf = nackOr a (goesIf (flagOf a ISR-STOPF) StopClear)
-waitAt c v s a Never = cond v.reads (stopOr c s a) (nackOr a (Goes Wait))
+abbrev pub wait_at : Call → View → SavedCall → ℕ → Flag → Effect
+wait_at c v s a Rxne = cond (flag_of a ISR_RXNE) (Goes Byte) (stop_or c s a)
+wait_at c v s a Txis = nack_or a (goes_if (flag_of a ISR_TXIS) Byte)
+wait_at c v s a Tc = nack_or a (next_if (flag_of a ISR_TC))
+wait_at c v s a Tcr = nack_or a (next_if (flag_of a ISR_TCR))
+wait_at c v s a Stopf = nack_or a (goes_if (flag_of a ISR_STOPF) StopClear)
+wait_at c v s a Never = cond v.reads (stop_or c s a) (nack_or a (Goes Wait))
 
 -- a byte was moved (and is counted in s): wait for the next, or go into the next block, or end
-abbrev pub byteMoved : Call → View → SavedCall → Effect
-byteMoved c v s =
-    cond (transaction c || byteThere c v s) (Goes Wait)
-    (cond v.last (transferOver c s) (Next (entryStep c)))
+abbrev pub byte_moved : Call → View → SavedCall → Effect
+byte_moved c v s =
+    cond (transaction c || byte_there c v s) (Goes Wait)
+    (cond v.last (transfer_over c s) (Next (entry_step c)))
 
 -- after the own addresses, or without them: call 1 enables, call 2 too but by a modify, call 3 is done
-abbrev pub ownThen : Call → Effect
-ownThen c = cond (is_call c New) (Goes Enable) (cond (is_call c TargetNew) (Goes (ModifyRead PeOn)) (Ends (Done 0)))
+abbrev pub own_then : Call → Effect
+own_then c = cond (is_call c New) (Goes Enable) (cond (is_call c TargetNew) (Goes (ModifyRead PeOn)) (Ends (Done 0)))
 
-abbrev pub writtenAt : Call → View → SavedCall → Modify → Effect
-writtenAt c v s PeOff = cond (is_call c Reset) (Goes Delay1) (Goes Timing)
-writtenAt c v s PeOn = Ends (Done 0)
-writtenAt c v s Listen = Ends (Done 0)
-writtenAt c v s NackSet = cond (is_call c NackTransfer) (Goes (ModifyRead ReloadOff)) (Ends (Done (count_of c s)))
-writtenAt c v s ReloadOff = Ends (Done 0)
-writtenAt c v s SbcOff = Goes (ModifyRead ReloadClear)
-writtenAt c v s ReloadClear = findAddress c v.nonempty s
-writtenAt c v s SbcOn = Goes (ModifyRead ReloadOn)
-writtenAt c v s ReloadOn = eventOf c v.nonempty s
-writtenAt c v s NbytesSet = cond (eqb s.piece 0) (Goes TransferClear) (Goes Wait)
+abbrev pub written_at : Call → View → SavedCall → Modify → Effect
+written_at c v s PeOff = cond (is_call c Reset) (Goes Delay1) (Goes Timing)
+written_at c v s PeOn = Ends (Done 0)
+written_at c v s Listen = Ends (Done 0)
+written_at c v s NackSet = cond (is_call c NackTransfer) (Goes (ModifyRead ReloadOff)) (Ends (Done (count_of c s)))
+written_at c v s ReloadOff = Ends (Done 0)
+written_at c v s SbcOff = Goes (ModifyRead ReloadClear)
+written_at c v s ReloadClear = find_address c v.nonempty s
+written_at c v s SbcOn = Goes (ModifyRead ReloadOn)
+written_at c v s ReloadOn = event_of c v.nonempty s
+written_at c v s NbytesSet = cond (eqb s.piece 0) (Goes TransferClear) (Goes Wait)
 
 -- What the answer leads to. At BYTE the byte is counted in s already, at ADDRESS the address is noted.
-abbrev pub effectAt : Call → Description → View → SavedCall → ℕ → Step → Effect
-effectAt c d v s a Ended = Ends s.outcome
-effectAt c d v s a Begin = Goes StartStatus
-effectAt c d v s a StartStatus = errorOr a (nackOr a (Goes StartControl))
-effectAt c d v s a StartControl = cond (flagOf a CR2-START) (Goes StartStatus) (Goes Wait)
-effectAt c d v s a Wait = errorOr a (waitAt c v s a (awaited c v s))
-effectAt c d v s a Byte = byteMoved c v s
-effectAt c d v s a StopClear = cond (transaction c) (Ends s.outcome) (stopEvent c)
-effectAt c d v s a BusClear = failOf c s Bus
-effectAt c d v s a ArbitrationClear = failOf c s Arbitration
-effectAt c d v s a NackClear = Goes FlushTxis
-effectAt c d v s a FlushTxis = cond (flagOf a ISR-TXIS) (Goes FlushByte) (Goes FlushTxe)
-effectAt c d v s a FlushByte = Goes FlushTxe
-effectAt c d v s a FlushTxe = cond (flagOf a ISR-TXE) (notAcknowledged c s) (Goes Flush)
-effectAt c d v s a Flush = notAcknowledged c s
-effectAt c d v s a Timing = cond (isConfigured d.config) (Goes Own) (ownThen c)
-effectAt c d v s a Own = cond (hasSecondary d.config) (Goes Secondary) (ownThen c)
-effectAt c d v s a Secondary = ownThen c
-effectAt c d v s a Enable = Ends (Done 0)
-effectAt c d v s a Delay1 = Goes Delay2
-effectAt c d v s a Delay2 = Goes Disabled
-effectAt c d v s a Disabled = cond (flagOf a CR1-PE) (Goes Disabled) (Goes (ModifyRead PeOn))
-effectAt c d v s a Event = eventIn c a
-effectAt c d v s a EventFlush = Goes (clearStep c)
-effectAt c d v s a EventClear = cond (manual c) (eventOf c v.nonempty s) (findAddress c v.nonempty s)
-effectAt c d v s a Address = addressFound c v.nonempty s
-effectAt c d v s a TransferClear = Goes Wait
-effectAt c d v s a (ModifyRead m) = Loads (ModifyWrite m)
-effectAt c d v s a (ModifyWrite m) = writtenAt c v s m
+abbrev pub effect_at : Call → Description → View → SavedCall → ℕ → Step → Effect
+effect_at c d v s a Ended = Ends s.outcome
+effect_at c d v s a Begin = Goes StartStatus
+effect_at c d v s a StartStatus = error_or a (nack_or a (Goes StartControl))
+effect_at c d v s a StartControl = cond (flag_of a CR2_START) (Goes StartStatus) (Goes Wait)
+effect_at c d v s a Wait = error_or a (wait_at c v s a (awaited c v s))
+effect_at c d v s a Byte = byte_moved c v s
+effect_at c d v s a StopClear = cond (transaction c) (Ends s.outcome) (stop_event c)
+effect_at c d v s a BusClear = fail_of c s Bus
+effect_at c d v s a ArbitrationClear = fail_of c s Arbitration
+effect_at c d v s a NackClear = Goes FlushTxis
+effect_at c d v s a FlushTxis = cond (flag_of a ISR_TXIS) (Goes FlushByte) (Goes FlushTxe)
+effect_at c d v s a FlushByte = Goes FlushTxe
+effect_at c d v s a FlushTxe = cond (flag_of a ISR_TXE) (not_acknowledged c s) (Goes Flush)
+effect_at c d v s a Flush = not_acknowledged c s
+effect_at c d v s a Timing = cond (is_configured d.config) (Goes Own) (own_then c)
+effect_at c d v s a Own = cond (has_secondary d.config) (Goes Secondary) (own_then c)
+effect_at c d v s a Secondary = own_then c
+effect_at c d v s a Enable = Ends (Done 0)
+effect_at c d v s a Delay1 = Goes Delay2
+effect_at c d v s a Delay2 = Goes Disabled
+effect_at c d v s a Disabled = cond (flag_of a CR1_PE) (Goes Disabled) (Goes (ModifyRead PeOn))
+effect_at c d v s a Event = event_in c a
+effect_at c d v s a EventFlush = Goes (clear_step c)
+effect_at c d v s a EventClear = cond (manual c) (event_of c v.nonempty s) (find_address c v.nonempty s)
+effect_at c d v s a Address = address_found c v.nonempty s
+effect_at c d v s a TransferClear = Goes Wait
+effect_at c d v s a (ModifyRead m) = Loads (ModifyWrite m)
+effect_at c d v s a (ModifyWrite m) = written_at c v s m
 
 -- ---- The saved call after a step
 
 -- one more access, held at the counter's end
-abbrev pub oneMore : ℕ → ℕ
-oneMore n = min (n + 1) 4294967295
+abbrev pub one_more : ℕ → ℕ
+one_more n = min (n + 1) 4294967295
 
 abbrev pub saved_at : SavedCall → Step → ℕ → ℕ → ℕ → ℕ → Outcome → ℕ → SavedCall
 saved_at s t i j m w o n =
@@ -264,60 +264,60 @@ saved_at s t i j m w o n =
     }
 
 -- on to a step with what is on its way then
-abbrev pub goesTo : SavedCall → Step → Outcome → SavedCall
-goesTo s t o = saved_at s t s.piece s.byte s.out s.word o (oneMore s.accesses)
+abbrev pub goes_to : SavedCall → Step → Outcome → SavedCall
+goes_to s t o = saved_at s t s.piece s.byte s.out s.word o (one_more s.accesses)
 
-abbrev pub applyOf : SavedCall → ℕ → Effect → SavedCall
-applyOf s a (Goes t) = goesTo s t s.outcome
-applyOf s a (Loads t) = saved_at s t s.piece s.byte s.out a s.outcome (oneMore s.accesses)
-applyOf s a (Notes o t) = goesTo s t o
-applyOf s a (Next t) = saved_at s t (s.piece + 1) 0 s.out s.word s.outcome (oneMore s.accesses)
-applyOf s a (Enters t) = saved_at s t 0 0 0 s.word (Done 0) (oneMore s.accesses)
-applyOf s a (Fails o) = goesTo s Wait o
-applyOf s a (Ends o) = goesTo s Ended o
+abbrev pub apply_of : SavedCall → ℕ → Effect → SavedCall
+apply_of s a (Goes t) = goes_to s t s.outcome
+apply_of s a (Loads t) = saved_at s t s.piece s.byte s.out a s.outcome (one_more s.accesses)
+apply_of s a (Notes o t) = goes_to s t o
+apply_of s a (Next t) = saved_at s t (s.piece + 1) 0 s.out s.word s.outcome (one_more s.accesses)
+apply_of s a (Enters t) = saved_at s t 0 0 0 s.word (Done 0) (one_more s.accesses)
+apply_of s a (Fails o) = goes_to s Wait o
+apply_of s a (Ends o) = goes_to s Ended o
 
 -- a number for each step, our own
-abbrev pub modifyNumber : Modify → ℕ
-modifyNumber PeOff = 0
-modifyNumber PeOn = 1
-modifyNumber Listen = 2
-modifyNumber NackSet = 3
-modifyNumber ReloadOff = 4
-modifyNumber SbcOff = 5
-modifyNumber ReloadClear = 6
-modifyNumber SbcOn = 7
-modifyNumber ReloadOn = 8
-modifyNumber NbytesSet = 9
+abbrev pub modify_number : Modify → ℕ
+modify_number PeOff = 0
+modify_number PeOn = 1
+modify_number Listen = 2
+modify_number NackSet = 3
+modify_number ReloadOff = 4
+modify_number SbcOff = 5
+modify_number ReloadClear = 6
+modify_number SbcOn = 7
+modify_number ReloadOn = 8
+modify_number NbytesSet = 9
 
-abbrev pub stepNumber : Step → ℕ
-stepNumber Ended = 0
-stepNumber Begin = 1
-stepNumber StartStatus = 2
-stepNumber StartControl = 3
-stepNumber Wait = 4
-stepNumber Byte = 5
-stepNumber StopClear = 6
-stepNumber BusClear = 7
-stepNumber ArbitrationClear = 8
-stepNumber NackClear = 9
-stepNumber FlushTxis = 10
-stepNumber FlushByte = 11
-stepNumber FlushTxe = 12
-stepNumber Flush = 13
-stepNumber Timing = 14
-stepNumber Own = 15
-stepNumber Secondary = 16
-stepNumber Enable = 17
-stepNumber Delay1 = 18
-stepNumber Delay2 = 19
-stepNumber Disabled = 20
-stepNumber Event = 21
-stepNumber EventFlush = 22
-stepNumber EventClear = 23
-stepNumber Address = 24
-stepNumber TransferClear = 25
-stepNumber (ModifyRead m) = 26 + modifyNumber m
-stepNumber (ModifyWrite m) = 36 + modifyNumber m
+abbrev pub step_number : Step → ℕ
+step_number Ended = 0
+step_number Begin = 1
+step_number StartStatus = 2
+step_number StartControl = 3
+step_number Wait = 4
+step_number Byte = 5
+step_number StopClear = 6
+step_number BusClear = 7
+step_number ArbitrationClear = 8
+step_number NackClear = 9
+step_number FlushTxis = 10
+step_number FlushByte = 11
+step_number FlushTxe = 12
+step_number Flush = 13
+step_number Timing = 14
+step_number Own = 15
+step_number Secondary = 16
+step_number Enable = 17
+step_number Delay1 = 18
+step_number Delay2 = 19
+step_number Disabled = 20
+step_number Event = 21
+step_number EventFlush = 22
+step_number EventClear = 23
+step_number Address = 24
+step_number TransferClear = 25
+step_number (ModifyRead m) = 26 + modify_number m
+step_number (ModifyWrite m) = 36 + modify_number m
 
 -- and all of them, each at the place that its number says
 abbrev pub modifies : List Modify
@@ -330,8 +330,8 @@ steps =
     ∷ Event ∷ EventFlush ∷ EventClear ∷ Address ∷ TransferClear
     ∷ map ModifyRead modifies ++ map ModifyWrite modifies
 
-abbrev pub sameStep : Step → Step → Bool
-sameStep t u = eqb (stepNumber t) (stepNumber u)
+abbrev pub same_step : Step → Step → Bool
+same_step t u = eqb (step_number t) (step_number u)
 
 -- What a step notes first: BYTE counts its byte, in the piece, held at its length + 1, and as put out; ADDRESS keeps the address.
 abbrev pub counted : View → SavedCall → SavedCall
@@ -339,28 +339,28 @@ counted v s =
     saved_at s s.step s.piece (min (s.byte + 1) (v.size + 1)) (min (s.out + 1) v.most) s.word s.outcome s.accesses
 
 -- Once OAR1 is read, its OA1 is the address only if its OA1MODE is 1; otherwise ADDCODE, the value of the event on its way, is (document 02, R-5).
-abbrev pub ownOr : ℕ → ℕ → ℕ
-ownOr code a = cond (flagOf a OAR1-OA1MODE) (getOf a OAR1-OA1) code
+abbrev pub own_or : ℕ → ℕ → ℕ
+own_or code a = cond (flag_of a OAR1_OA1MODE) (get_of a OAR1_OA1) code
 
 abbrev pub found : SavedCall → ℕ → SavedCall
-found s a = saved_at s s.step s.piece s.byte s.out s.word (readdressed s.outcome (ownOr (outcomeValue s.outcome) a)) s.accesses
+found s a = saved_at s s.step s.piece s.byte s.out s.word (readdressed s.outcome (own_or (outcome_value s.outcome) a)) s.accesses
 
 abbrev pub noted : View → SavedCall → ℕ → Step → SavedCall
-noted v s a t = cond (sameStep t Byte) (counted v s) (cond (sameStep t Address) (found s a) s)
+noted v s a t = cond (same_step t Byte) (counted v s) (cond (same_step t Address) (found s a) s)
 
-abbrev pub afterIn : Call → Description → View → SavedCall → ℕ → SavedCall
-afterIn c d v s a =
+abbrev pub after_in : Call → Description → View → SavedCall → ℕ → SavedCall
+after_in c d v s a =
     let s' : SavedCall = noted v s a s.step in
-    applyOf s' a (effectAt c d v s' a s.step)
+    apply_of s' a (effect_at c d v s' a s.step)
 
 unfoldable pub after_of : Request → SavedCall → ℕ → SavedCall
-after_of q s a = afterIn q.call q.words (view_of q s) s a
+after_of q s a = after_in q.call q.words (view_of q s) s a
 
 -- ---- Begin
 
 -- a saved call of that number that nothing was done for
-abbrev pub freshAt : ℕ → Step → SavedCall
-freshAt n t =
+abbrev pub fresh_at : ℕ → Step → SavedCall
+fresh_at n t =
     record {
       call = n;
       piece = 0;
@@ -373,18 +373,18 @@ freshAt n t =
     }
 
 abbrev pub start_at : Call → Step → SavedCall
-start_at c t = freshAt (callNumber c) t
+start_at c t = fresh_at (call_number c) t
 
 -- Without a piece a transaction and a manual 9 or 10 have ended as done before any access.
-abbrev pub beginAt : Call → Bool → Step
-beginAt c nonempty =
+abbrev pub begin_at : Call → Bool → Step
+begin_at c nonempty =
     cond (is_call c New || (is_call c TargetNew || is_call c Reset)) (ModifyRead PeOff)
     (cond (is_call c ConfigureTargetAddresses) Own
     (cond (is_call c EnableTargetEvent || is_call c DisableTargetEvent) (ModifyRead Listen)
     (cond (is_call c AckTransfer) (ModifyRead ReloadOff)
     (cond (is_call c NackTransfer) (ModifyRead NackSet)
     (cond (eventful c) Event
-    (cond nonempty (entryStep c) Ended))))))
+    (cond nonempty (entry_step c) Ended))))))
 
-unfoldable pub beginOf : Request → SavedCall
-beginOf q = start_at q.call (beginAt q.call (viewAt (pieces_of q) (most_of q) 0).nonempty)
+unfoldable pub begin_of : Request → SavedCall
+begin_of q = start_at q.call (begin_at q.call (view_at (pieces_of q) (most_of q) 0).nonempty)

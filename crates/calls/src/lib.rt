@@ -1,7 +1,7 @@
 // What a call is: its description, its steps, where it stands, and what comes of it. Which access each step makes and
 // what follows is the definition in specs/; that it holds for every order of flags is proved in proofs/.
 ghost use Rattle.std.specs.Prelude.{◌≡◌};
-ghost use Rattle.calls.specs.Calls.{configOf, withOwn, withMode, withSecondary, withMask};
+ghost use Rattle.calls.specs.Calls.{config_of, with_own, with_mode, with_secondary, with_mask};
 
 use registers::Register;
 use timing::RawTimingr;
@@ -63,7 +63,7 @@ pub struct TargetConfig {
 
 impl TargetConfig {
     pub fn new(own: u32) -> TargetConfig
-        ensures { result ≡ configOf own }
+        ensures { result ≡ config_of own }
     {
         TargetConfig {
             own,
@@ -74,21 +74,21 @@ impl TargetConfig {
     }
 
     pub fn own_address(mut self, address: u32) -> TargetConfig
-        ensures { result ≡ withOwn address self }
+        ensures { result ≡ with_own address self }
     {
         self.own = address;
         self
     }
 
     pub fn own_address_mode(mut self, mode: AddressMode) -> TargetConfig
-        ensures { result ≡ withMode mode self }
+        ensures { result ≡ with_mode mode self }
     {
         self = TargetConfig { mode, ..self };
         self
     }
 
     pub fn secondary_address(mut self, address: u32) -> TargetConfig
-        ensures { result ≡ withSecondary address self }
+        ensures { result ≡ with_secondary address self }
     {
         self = TargetConfig {
             secondary: SecondaryAddress::Secondary(address),
@@ -99,7 +99,7 @@ impl TargetConfig {
 
     // The number of low address bits that are not compared.
     pub fn secondary_address_mask_bits(mut self, bits: u32) -> TargetConfig
-        ensures { result ≡ withMask bits self }
+        ensures { result ≡ with_mask bits self }
     {
         self = TargetConfig {
             mask: MaskBits::Masked(bits),

@@ -1,9 +1,9 @@
 // A call driven to its end, with a log of fixed size, piece after piece.
 ghost use Rattle.std.specs.Prelude.{◌≡◌, ◌≤◌, length};
-ghost use Rattle.calls.specs.Joined.{reachedBy, goOn};
+ghost use Rattle.calls.specs.Joined.{reached_by, go_on};
 ghost use Rattle.calls.specs.Run.{run_of};
 ghost use Rattle.window.specs.Window.{laid};
-ghost use Rattle.drive.specs.Drive.{asDriven, inLines, places, runFor};
+ghost use Rattle.drive.specs.Drive.{as_driven, in_lines, places, run_for};
 
 use calls::{Advanced, Description, Report, SavedCall};
 use kinds::report;
@@ -39,7 +39,7 @@ fn piece(
     out: &mut [u8],
 ) -> Driven
     requires { (t.advanced.used ≤ length answers.now) × (t.advanced.written ≤ 131072) }
-    ensures { asDriven result buffer.new out.new ≡ goOn (inLines form) d ops.now answers.now 512 (asDriven t buffer.old out.old) }
+    ensures { as_driven result buffer.new out.new ≡ go_on (in_lines form) d ops.now answers.now 512 (as_driven t buffer.old out.old) }
 {
     let mut log = log();
     let place = t.place;
@@ -73,7 +73,7 @@ fn run(
     answers: &[u32],
     out: &mut [u8],
 ) -> Driven
-    ensures { asDriven result buffer.new out.new ≡ reachedBy (inLines form) (run_of d ops.now places saved buffer.old answers.now) (laid p out.old) }
+    ensures { as_driven result buffer.new out.new ≡ reached_by (in_lines form) (run_of d ops.now places saved buffer.old answers.now) (laid p out.old) }
 {
     let advanced = Advanced {
         used: 0,
@@ -105,7 +105,7 @@ pub fn drive(
     answers: &[u32],
     out: &mut [u8],
 ) -> Driven
-    ensures { asDriven result buffer.new out.new ≡ reachedBy (inLines form) (runFor d ops.now buffer.old answers.now) (laid p out.old) }
+    ensures { as_driven result buffer.new out.new ≡ reached_by (in_lines form) (run_for d ops.now buffer.old answers.now) (laid p out.old) }
 {
     let begun = driver::begin(d, ops, buffer);
     let saved = begun.saved;

@@ -4,12 +4,12 @@ use Prim.Native.Nat.{ℕ}
 use mathlib.Core.Path.{◌≡◌, refl, ap, ◌∙◌, subst, subst⁻¹}
 use mathlib.Core.List.{List, [], ◌∷◌, map}
 use lib.ListN.{length}
-use Rattle.calls.proofs.Demand.{demand-3}
+use Rattle.calls.proofs.Demand.{demand_3}
 use Rattle.calls.proofs.Logic.{both, is_true, is_false}
 use Rattle.calls.specs.Advances.{Advance, Meets, refused, Follows, none, but, then}
 use Rattle.calls.specs.Demand.{Demand3}
-use Rattle.calls.specs.Refusals.{checkOf}
-use Rattle.calls.specs.Run.{begunBy, begunOf}
+use Rattle.calls.specs.Refusals.{check_of}
+use Rattle.calls.specs.Run.{begun_by, begun_of}
 use Rattle.calls.specs.declared.Begun.{Begun}
 use Rattle.calls.specs.declared.Description.{Description}
 use Rattle.calls.specs.declared.SavedCall.{SavedCall}
@@ -37,11 +37,11 @@ follows d ops (C ∷ Cs) s b h =
     then meets (h.0.description a) (h.0.operations a) (h.0.buffer a) a
     (follows d ops Cs _ _ (rw (is_false (refused C.advance) a) at h.1)))
 
-verdict-is : (d : Description) (ops : List ℕ) (n : ℕ) → (begunOf d ops n).verdict ≡ checkOf d ops n
-unfolding begunOf
-verdict-is d ops n = go (checkOf d ops n)
+verdict-is : (d : Description) (ops : List ℕ) (n : ℕ) → (begun_of d ops n).verdict ≡ check_of d ops n
+unfolding begun_of
+verdict-is d ops n = go (check_of d ops n)
   where
-    go : (v : Verdict) → (begunBy v d ops n).verdict ≡ v
+    go : (v : Verdict) → (begun_by v d ops n).verdict ≡ v
     go (Accepted c) = refl
     go (Refused r) = refl
 
@@ -53,7 +53,7 @@ demand B Cs h =
     let b : List ℕ = B.buffer in
     subst⁻¹ (λ (v : Verdict). Demand3 v d ops b (advances Cs))
     (ap (λ (g : Begun). g.verdict) B.contract ∙ verdict-is d ops (length b))
-    (demand-3 d ops b (advances Cs)
+    (demand_3 d ops b (advances Cs)
     (subst (λ (g : Begun). Follows d ops (advances Cs) g.saved b) B.contract (follows d ops Cs B.begun.saved b h)))
 
 -- ---- the functions. Each argument and each slice as it was left is named in the contract's equation, so none can be taken
@@ -72,7 +72,7 @@ beginning C =
 abbrev pub advancing : AdvanceCall → Advancing
 advancing C =
     let (d, (ops, (saved, (buffer, (answers, (log, _)))))) = C.given in
-    let (_, (_, (_, (bufferLeft, (_, (logLeft, _)))))) = C.left in
+    let (_, (_, (_, (buffer_left, (_, (log_left, _)))))) = C.left in
     record {
       saved = saved;
       advance =
@@ -83,13 +83,13 @@ advancing C =
             answers = answers.now;
             log = log.now;
             result = C.gave;
-            bufferLeft = bufferLeft.now;
-            logLeft = logLeft.now;
+            buffer_left = buffer_left.now;
+            log_left = log_left.now;
           };
       contract = C.contract;
     }
 
 -- every begin, and every list of advances after it
-pub driver-demand-3 : (B : BeginCall) (Cs : List AdvanceCall) → After (beginning B) (map advancing Cs) →
+pub driver_demand_3 : (B : BeginCall) (Cs : List AdvanceCall) → After (beginning B) (map advancing Cs) →
     DriverDemand3 (beginning B) (map advancing Cs)
-driver-demand-3 B Cs h = demand (beginning B) (map advancing Cs) h
+driver_demand_3 B Cs h = demand (beginning B) (map advancing Cs) h

@@ -9,7 +9,7 @@ use denote.Ref.{Bor}
 use Rattle.calls.proofs.Logic.{is_true, is_false}
 use Rattle.calls.proofs.Worked.{d, ops, b, worked}
 use Rattle.calls.specs.Advances.{Advance, Meets, refused, Follows, none, but, then}
-use Rattle.calls.specs.Run.{begunOf}
+use Rattle.calls.specs.Run.{begun_of}
 use Rattle.calls.specs.declared.Description.{Description}
 use Rattle.calls.specs.declared.SavedCall.{SavedCall}
 use Rattle.driver.specs.Demand.{Advancing, InTurn, After}
@@ -19,23 +19,23 @@ use Rattle.driver.proofs.Demand.{BeginCall, AdvanceCall, beginning, advancing}
 abbrev lent : List ℕ → Bor (List ℕ)
 lent l = record { ref_ptr = (0, 0); now = l }
 
-abbrev begin-call : Description → List ℕ → List ℕ → BeginCall
-begin-call d ops b =
+abbrev begin_call : Description → List ℕ → List ℕ → BeginCall
+begin_call d ops b =
     record {
       lifetimes = ([], ([], tt));
       given = (d, (lent ops, (lent b, tt)));
-      gave = begunOf d ops (length b);
+      gave = begun_of d ops (length b);
       left = (d, (lent ops, (lent b, tt)));
       contract = refl;
     }
 
-abbrev advance-call : (A : Advance) (s : SavedCall) → Meets A s → AdvanceCall
-advance-call A s m =
+abbrev advance_call : (A : Advance) (s : SavedCall) → Meets A s → AdvanceCall
+advance_call A s m =
     record {
       lifetimes = ([], ([], ([], ([], tt))));
       given = (A.words, (lent A.operations, (s, (lent A.buffer, (lent A.answers, (lent A.log, tt))))));
       gave = A.result;
-      left = (A.words, (lent A.operations, (s, (lent A.bufferLeft, (lent A.answers, (lent A.logLeft, tt))))));
+      left = (A.words, (lent A.operations, (s, (lent A.buffer_left, (lent A.answers, (lent A.log_left, tt))))));
       contract = m;
     }
 
@@ -43,34 +43,34 @@ advance-call A s m =
 record Called (d : Description) (ops : List ℕ) (As : List Advance) (s : SavedCall) (b : List ℕ) : Type 0 where
   calls : List AdvanceCall
   are : map (λ (C : Advancing). C.advance) (map advancing calls) ≡ As
-  in-turn : InTurn d ops s b (map advancing calls)
+  in_turn : InTurn d ops s b (map advancing calls)
 
 called : {d : Description} {ops : List ℕ} {As : List Advance} {s : SavedCall} {b : List ℕ} → Follows d ops As s b → Called d ops As s b
-called none = record { calls = []; are = refl; in-turn = tt }
+called none = record { calls = []; are = refl; in_turn = tt }
 called (but {A = A} {s = s} m r f) =
     let k = called f in
     record {
-      calls = advance-call A s m ∷ k.calls;
+      calls = advance_call A s m ∷ k.calls;
       are = λ i. A ∷ k.are i;
-      in-turn = (
+      in_turn = (
         record {
           saved = refl;
           description = λ n. absurd (T_not (refused A) n r);
           operations = λ n. absurd (T_not (refused A) n r);
           buffer = λ n. absurd (T_not (refused A) n r);
         },
-        rw (is_true (refused A) r) k.in-turn,
+        rw (is_true (refused A) r) k.in_turn,
       );
     }
 called (then {A = A} {s = s} m w o x n f) =
     let k = called f in
     record {
-      calls = advance-call A s m ∷ k.calls;
+      calls = advance_call A s m ∷ k.calls;
       are = λ i. A ∷ k.are i;
-      in-turn =
-          (record { saved = refl; description = λ _. w; operations = λ _. o; buffer = λ _. x }, rw (is_false (refused A) n) k.in-turn);
+      in_turn =
+          (record { saved = refl; description = λ _. w; operations = λ _. o; buffer = λ _. x }, rw (is_false (refused A) n) k.in_turn);
     }
 
 -- document 01's run of call 7, begun, cut, refused twice, cut again and ended
-worked-calls : After (beginning (begin-call d ops b)) (map advancing (called worked).calls)
-worked-calls = (called worked).in-turn
+worked_calls : After (beginning (begin_call d ops b)) (map advancing (called worked).calls)
+worked_calls = (called worked).in_turn

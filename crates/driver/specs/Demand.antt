@@ -3,7 +3,7 @@
 use Rattle.std.specs.Prelude.{ℕ, ◌≡◌, cond, not, List, [], ◌∷◌, map, T, length}
 use Rattle.calls.specs.Advances.{Advance, Meets, refused}
 use Rattle.calls.specs.Demand.{Demand3}
-use Rattle.calls.specs.Run.{begunOf}
+use Rattle.calls.specs.Run.{begun_of}
 use Rattle.calls.specs.declared.Begun.{Begun}
 use Rattle.calls.specs.declared.Description.{Description}
 use Rattle.calls.specs.declared.SavedCall.{SavedCall}
@@ -15,7 +15,7 @@ pub record Beginning : Type 0 where
   pub operations : List ℕ
   pub buffer : List ℕ
   pub begun : Begun
-  pub contract : begun ≡ begunOf description operations (length buffer)
+  pub contract : begun ≡ begun_of description operations (length buffer)
 
 -- an advance, and the saved call that it was handed
 pub record Advancing : Type 0 where
@@ -36,7 +36,7 @@ abbrev pub InTurn : Description → List ℕ → SavedCall → List ℕ → List
 InTurn d ops s b [] = Unit {0}
 InTurn d ops s b (C ∷ Cs) =
     Handed d ops s b C
-    × InTurn d ops C.advance.result.saved (cond (refused C.advance) b C.advance.bufferLeft) Cs
+    × InTurn d ops C.advance.result.saved (cond (refused C.advance) b C.advance.buffer_left) Cs
 
 -- the advances Cs after the begin B
 abbrev pub After : Beginning → List Advancing → Type 0

@@ -1,10 +1,10 @@
 // Row 13 of the refusals: which saved calls are taken.
 ghost use Rattle.std.specs.Prelude.{◌≡◌, not, ◌&&◌, ◌||◌, ◌≤◌, eqb};
-ghost use Rattle.calls.specs.Calls.{callNumber, is_call, transaction, manual, receives, transmits, eventful, isConfigured, hasSecondary};
-ghost use Rattle.calls.specs.Refusals.{requestOf, modifyGroup, group_of, groupTaken};
+ghost use Rattle.calls.specs.Calls.{call_number, is_call, transaction, manual, receives, transmits, eventful, is_configured, has_secondary};
+ghost use Rattle.calls.specs.Refusals.{request_of, modify_group, group_of, group_taken};
 ghost use Rattle.calls.specs.declared.Call.TheVariants.{New, TargetNew, ConfigureTargetAddresses, NackTransfer};
 ghost use Rattle.calls.proofs.Fit.{Fit};
-ghost use Rattle.driver.specs.Views.{cursorAt, belongs, at_byte, standsIn};
+ghost use Rattle.driver.specs.Views.{cursor_at, belongs, at_byte, stands_in};
 
 use crate::view::{Cursor, has_pieces, is_there};
 use calls::{Call, Description, Modify, SavedCall, Step, View};
@@ -70,7 +70,7 @@ fn has_stop(c: Call, nonempty: bool) -> bool
 }
 
 fn has_own(c: Call, d: Description) -> bool
-    ensures { result ≡ (is_call c ConfigureTargetAddresses || ((is_call c New || is_call c TargetNew) && isConfigured d.config)) }
+    ensures { result ≡ (is_call c ConfigureTargetAddresses || ((is_call c New || is_call c TargetNew) && is_configured d.config)) }
 {
     let config = d.config;
     is_call(c, Call::ConfigureTargetAddresses)
@@ -78,7 +78,7 @@ fn has_own(c: Call, d: Description) -> bool
 }
 
 fn has_second(c: Call, d: Description) -> bool
-    ensures { result ≡ ((is_call c New || (is_call c TargetNew || is_call c ConfigureTargetAddresses)) && hasSecondary d.config) }
+    ensures { result ≡ ((is_call c New || (is_call c TargetNew || is_call c ConfigureTargetAddresses)) && has_secondary d.config) }
 {
     let config = d.config;
     any(
@@ -96,7 +96,7 @@ fn has_nack_set(c: Call, nonempty: bool) -> bool
 }
 
 fn takes_modify(c: Call, d: Description, nonempty: bool, m: Modify) -> bool
-    ensures { result ≡ groupTaken c d nonempty (modifyGroup m) }
+    ensures { result ≡ group_taken c d nonempty (modify_group m) }
 {
     match m {
         Modify::PeOff => any(c, Call::New, Call::TargetNew, Call::Reset),
@@ -113,7 +113,7 @@ fn takes_modify(c: Call, d: Description, nonempty: bool, m: Modify) -> bool
 }
 
 fn takes(c: Call, d: Description, nonempty: bool, t: Step) -> bool
-    ensures { result ≡ groupTaken c d nonempty (group_of t) }
+    ensures { result ≡ group_taken c d nonempty (group_of t) }
 {
     match t {
         Step::Ended => true,
@@ -148,7 +148,7 @@ fn takes(c: Call, d: Description, nonempty: bool, t: Step) -> bool
 }
 
 fn is_of(s: SavedCall, c: Call) -> bool
-    ensures { result ≡ eqb s.call (callNumber c) }
+    ensures { result ≡ eqb s.call (call_number c) }
 {
     s.call == number(c)
 }
@@ -156,7 +156,7 @@ fn is_of(s: SavedCall, c: Call) -> bool
 // The saved call is of this call and has ended, or stands at a step of it; no call has more pieces than sixteen bits count.
 pub fn belongs(c: Call, d: Description, ops: &[u32], n: u32, s: SavedCall) -> bool
     requires { Fit c ops.now n }
-    ensures { result ≡ belongs (requestOf c d ops.now n) s }
+    ensures { result ≡ belongs (request_of c d ops.now n) s }
 {
     if !is_of(s, c) {
         return false;
@@ -182,8 +182,8 @@ fn at_byte(c: Call, v: View, s: SavedCall) -> bool
 
 // The piece is there, and the byte is right in it; p is the cursor at that piece.
 pub fn stands(c: Call, ops: &[u32], n: u32, p: Cursor, s: SavedCall) -> bool
-    requires { Fit c ops.now n × (p ≡ cursorAt c ops.now n s.piece) }
-    ensures { result ≡ standsIn c ops.now n s }
+    requires { Fit c ops.now n × (p ≡ cursor_at c ops.now n s.piece) }
+    ensures { result ≡ stands_in c ops.now n s }
 {
     let v = p.view;
     is_there(c, ops, n, p.operation, s.piece) & at_byte(c, v, s)

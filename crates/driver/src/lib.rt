@@ -1,14 +1,14 @@
 // The driver: begin, advance and the next access of every listed call, each equal to its definition in the crate `calls`.
 // It touches no register: answers are lent to it, and what it would write stands in the log that it leaves.
 ghost use Rattle.std.specs.Prelude.{◌≡◌, ◌/◌, length};
-ghost use Rattle.calls.specs.Refusals.{requestOf, checkOf};
-ghost use Rattle.calls.specs.Run.{begunOf, run_by, asFinal, finalBy, finalOf};
-ghost use Rattle.calls.specs.Steps.{beginOf};
+ghost use Rattle.calls.specs.Refusals.{request_of, check_of};
+ghost use Rattle.calls.specs.Run.{begun_of, run_by, as_final, final_by, final_of};
+ghost use Rattle.calls.specs.Steps.{begin_of};
 ghost use Rattle.calls.specs.declared.Next.TheVariants as next;
 ghost use Rattle.calls.specs.declared.Refusal.TheVariants.{SavedCall as BadSavedCall};
 ghost use Rattle.calls.specs.declared.Report.TheVariants.{Refused};
 ghost use Rattle.calls.specs.declared.Verdict.TheVariants.{Accepted};
-ghost use Rattle.driver.specs.Next.{nextBy, nextFor};
+ghost use Rattle.driver.specs.Next.{next_by, next_for};
 ghost use Rattle.driver.specs.Turn.{untouched};
 
 use calls::{Advanced, Begun, Call, Description, Next, Refusal, Report, SavedCall, Verdict};
@@ -21,15 +21,15 @@ mod view;
 
 // A call that the description names, at its beginning.
 fn begin_call(c: Call, d: Description, ops: &[u32], n: u32) -> SavedCall
-    requires { checkOf d ops.now n ≡ Accepted c }
-    ensures { result ≡ beginOf (requestOf c d ops.now n) }
+    requires { check_of d ops.now n ≡ Accepted c }
+    ensures { result ≡ begin_of (request_of c d ops.now n) }
 {
     steps::begin_at(c, view::has_pieces(c, ops, n))
 }
 
 // Begins a call. The operation list and the buffer are looked at, not kept: they are lent to each advance again.
 pub fn begin(d: Description, ops: &[u32], buffer: &[u8]) -> Begun
-    ensures { result ≡ begunOf d ops.now (length buffer.now) }
+    ensures { result ≡ begun_of d ops.now (length buffer.now) }
 {
     let n = buffer.len();
     let verdict = refusals::check(d, ops, n);
@@ -72,8 +72,8 @@ fn advance_call(
     answers: &[u32],
     log: &mut [u32],
 ) -> Advanced
-    requires { checkOf d ops.now (length buffer.old) ≡ Accepted c }
-    ensures { asFinal result buffer.new log.new ≡ finalBy log.old (run_by (Accepted c) d ops.now (length log.old / 2) saved buffer.old answers.now) }
+    requires { check_of d ops.now (length buffer.old) ≡ Accepted c }
+    ensures { as_final result buffer.new log.new ≡ final_by log.old (run_by (Accepted c) d ops.now (length log.old / 2) saved buffer.old answers.now) }
 {
     let n = buffer.len() as u32;
     if !accept::belongs(c, d, ops, n, saved) {
@@ -101,7 +101,7 @@ pub fn advance(
     answers: &[u32],
     log: &mut [u32],
 ) -> Advanced
-    ensures { asFinal result buffer.new log.new ≡ finalOf d ops.now saved buffer.old answers.now log.old }
+    ensures { as_final result buffer.new log.new ≡ final_of d ops.now saved buffer.old answers.now log.old }
 {
     let verdict = refusals::check(d, ops, buffer.len());
     match verdict {
@@ -117,8 +117,8 @@ fn no_next() -> Next
 }
 
 fn next_call(c: Call, d: Description, ops: &[u32], saved: SavedCall, buffer: &[u8]) -> Next
-    requires { checkOf d ops.now (length buffer.now) ≡ Accepted c }
-    ensures { result ≡ nextBy (Accepted c) d ops.now saved buffer.now }
+    requires { check_of d ops.now (length buffer.now) ≡ Accepted c }
+    ensures { result ≡ next_by (Accepted c) d ops.now saved buffer.now }
 {
     let n = buffer.len() as u32;
     if !accept::belongs(c, d, ops, n, saved) {
@@ -138,7 +138,7 @@ fn next_call(c: Call, d: Description, ops: &[u32], saved: SavedCall, buffer: &[u
 
 // The access that the next advance makes first: so firmware knows which register to read before it lends the answer.
 pub fn next_access(d: Description, ops: &[u32], saved: SavedCall, buffer: &[u8]) -> Next
-    ensures { result ≡ nextFor d ops.now saved buffer.now }
+    ensures { result ≡ next_for d ops.now saved buffer.now }
 {
     let verdict = refusals::check(d, ops, buffer.len());
     match verdict {

@@ -2,11 +2,11 @@
 // is, each is its general turn, and changes no more of the saved call than the byte, the bytes put out, the step and the count of
 // accesses.
 ghost use Rattle.std.specs.Prelude.{◌≡◌, true, false, cond, ◌&&◌, List, ℕ, ◌+◌, ◌≤◌, ◌<◌, eqb, ltb, length};
-ghost use Rattle.calls.specs.Outcomes.{isDone};
-ghost use Rattle.calls.specs.Steps.{sameStep};
+ghost use Rattle.calls.specs.Outcomes.{is_done};
+ghost use Rattle.calls.specs.Steps.{same_step};
 ghost use Rattle.calls.specs.declared.Step.TheVariants.{Wait, Byte};
 ghost use Rattle.steps.specs.Bounds.{Small};
-ghost use Rattle.driver.specs.Turn.{quickly, passed, movedBy, Quickly};
+ghost use Rattle.driver.specs.Turn.{quickly, passed, moved_by, Quickly};
 
 use crate::run;
 use calls::{SavedCall, Step, View};
@@ -51,7 +51,7 @@ fn passes(s: SavedCall, used: usize) -> Quick
 
 // The saved call after it.
 pub fn moved(s: SavedCall, k: Quick) -> SavedCall
-    ensures { result ≡ movedBy s k }
+    ensures { result ≡ moved_by s k }
 {
     let step = k.step;
     SavedCall {
@@ -71,7 +71,7 @@ fn awaited_flags(v: View) -> u32
 }
 
 fn is_ready(v: View, s: SavedCall, flags: u32) -> bool
-    ensures { result ≡ (eqb flags (cond v.reads 2 1) && (isDone s.outcome && ltb s.byte v.size)) }
+    ensures { result ≡ (eqb flags (cond v.reads 2 1) && (is_done s.outcome && ltb s.byte v.size)) }
 {
     let o = s.outcome;
     (flags == awaited_flags(v)) & (outcome::is_done(o) & (s.byte < v.size))
@@ -80,7 +80,7 @@ fn is_ready(v: View, s: SavedCall, flags: u32) -> bool
 // ISR's bits 1 to 9 are all the flags that a wait looks at, TXIS to ARLO. With none of them it goes on, with just the awaited
 // one its byte is next.
 fn wait(v: View, s: SavedCall, answers: &[u32], used: usize, log: &mut [u32], at: usize) -> Quick
-    requires { (at + 2 ≤ length log.old) × (sameStep s.step Wait ≡ true) }
+    requires { (at + 2 ≤ length log.old) × (same_step s.step Wait ≡ true) }
     ensures { (b : List ℕ) → Quickly v s b answers.now used log.old at result b log.new }
 {
     if used < answers.len() {
@@ -107,7 +107,7 @@ fn take(
     log: &mut [u32],
     at: usize,
 ) -> Quick
-    requires { (at + 2 ≤ length log.old) × (sameStep s.step Byte ≡ true) × (s.byte + 1 < v.size) × (v.reads ≡ true) }
+    requires { (at + 2 ≤ length log.old) × (same_step s.step Byte ≡ true) × (s.byte + 1 < v.size) × (v.reads ≡ true) }
     ensures { Quickly v s buffer.old answers.now used log.old at result buffer.new log.new }
 {
     if used < answers.len() {
@@ -125,7 +125,7 @@ fn take(
 }
 
 fn put(v: View, s: SavedCall, buffer: &[u8], used: usize, log: &mut [u32], at: usize) -> Quick
-    requires { (at + 2 ≤ length log.old) × (sameStep s.step Byte ≡ true) × (s.byte + 1 < v.size) × (v.reads ≡ false) }
+    requires { (at + 2 ≤ length log.old) × (same_step s.step Byte ≡ true) × (s.byte + 1 < v.size) × (v.reads ≡ false) }
     ensures { (l : List ℕ) → Quickly v s buffer.now l used log.old at result buffer.now log.new }
 {
     let value = access::byte_out(v, buffer, s);
@@ -143,7 +143,7 @@ fn byte(
     log: &mut [u32],
     at: usize,
 ) -> Quick
-    requires { (at + 2 ≤ length log.old) × Small s × (sameStep s.step Byte ≡ true) }
+    requires { (at + 2 ≤ length log.old) × Small s × (same_step s.step Byte ≡ true) }
     ensures { Quickly v s buffer.old answers.now used log.old at result buffer.new log.new }
 {
     if (s.byte + 1 < v.size) && (access::place(v, s) < buffer.len()) {

@@ -1,13 +1,13 @@
 // The loop of advance: accesses until the call has ended, the log has no place, or a read finds no answer.
 ghost use Rattle.std.specs.Prelude.{◌≡◌, ◌+◌, ◌*◌, ◌/◌, ◌≤◌, ltb, length, set};
 ghost use Rattle.calls.proofs.Accepted.{Known};
-ghost use Rattle.calls.specs.Refusals.{requestOf};
-ghost use Rattle.calls.specs.Run.{byte_of, advanceFrom, asFinal, finalBy};
+ghost use Rattle.calls.specs.Refusals.{request_of};
+ghost use Rattle.calls.specs.Run.{byte_of, advance_from, as_final, final_by};
 ghost use Rattle.registers.specs.Map.{offset_of};
 ghost use Rattle.calls.proofs.Fit.{Fit};
 ghost use Rattle.steps.specs.Bounds.{Small};
-ghost use Rattle.driver.specs.Views.{cursorAt};
-ghost use Rattle.driver.specs.Turn.{stayed, went, asMade, made_of, asTurn, turnLeft};
+ghost use Rattle.driver.specs.Views.{cursor_at};
+ghost use Rattle.driver.specs.Turn.{stayed, went, as_made, made_of, as_turn, turn_left};
 
 use crate::view::Cursor;
 use crate::{quick, view};
@@ -96,7 +96,7 @@ fn make(
     at: usize,
 ) -> Attempt
     requires { at + 2 ≤ length log.old }
-    ensures { asMade result buffer.new log.new ≡ made_of c d v s buffer.old answers.now used log.old at }
+    ensures { as_made result buffer.new log.new ≡ made_of c d v s buffer.old answers.now used log.old at }
 {
     let outcome = s.outcome;
     let x = access::access(c, d, v, buffer, s);
@@ -139,7 +139,7 @@ fn turn(
     at: usize,
 ) -> Turned
     requires { (at + 2 ≤ length log.old) × Small s × (v.size ≤ 65535) }
-    ensures { asTurn result buffer.new log.new ≡ turnLeft c d v s buffer.old answers.now used log.old at }
+    ensures { as_turn result buffer.new log.new ≡ turn_left c d v s buffer.old answers.now used log.old at }
 {
     let found = make(c, d, v, s, buffer, answers, used, log, at);
     let report = found.report;
@@ -172,8 +172,8 @@ pub fn run(
     answers: &[u32],
     log: &mut [u32],
 ) -> Advanced
-    requires { Fit c ops.now n × (first ≡ cursorAt c ops.now n saved.piece) × Known (requestOf c d ops.now n) saved }
-    ensures { asFinal result buffer.new log.new ≡ finalBy log.old (advanceFrom (requestOf c d ops.now n) (length log.old / 2) saved buffer.old answers.now) }
+    requires { Fit c ops.now n × (first ≡ cursor_at c ops.now n saved.piece) × Known (request_of c d ops.now n) saved }
+    ensures { as_final result buffer.new log.new ≡ final_by log.old (advance_from (request_of c d ops.now n) (length log.old / 2) saved buffer.old answers.now) }
 {
     let mut s = saved;
     let mut p = first;

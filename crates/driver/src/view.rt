@@ -3,10 +3,10 @@
 ghost use Rattle.std.specs.Prelude.{◌≡◌, not, ◌&&◌, ◌||◌, ◌+◌, ◌-◌, ◌*◌, ◌/◌, ◌≤◌, min, max, eqb, ltb, length, get_or};
 ghost use Rattle.std.specs.Bool.{beq};
 ghost use Rattle.calls.specs.Calls.{receives};
-ghost use Rattle.calls.specs.Pieces.{transferPieces, piecesFor, piece_at, startFrom, mostFor, viewAt};
+ghost use Rattle.calls.specs.Pieces.{transfer_pieces, pieces_for, piece_at, start_from, most_for, view_at};
 ghost use Rattle.calls.specs.Refusals.{total};
 ghost use Rattle.calls.proofs.Fit.{Fit};
-ghost use Rattle.driver.specs.Views.{opAt, position_of, positionAfter, viewFrom, cursorBy, cursorAt};
+ghost use Rattle.driver.specs.Views.{op_at, position_of, position_after, view_from, cursor_by, cursor_at};
 
 use calls::{Call, View};
 use kinds::call::{is_manual, is_manual_write, is_receiver, is_transaction, moves_bytes};
@@ -37,13 +37,13 @@ fn op_at(ops: &[u32], i: u32) -> u32
 }
 
 fn op_length(ops: &[u32], i: u32) -> u32
-    ensures { result ≡ (opAt ops.now i).size }
+    ensures { result ≡ (op_at ops.now i).size }
 {
     operation::length(op_at(ops, i))
 }
 
 fn op_reads(ops: &[u32], i: u32) -> bool
-    ensures { result ≡ (opAt ops.now i).reads }
+    ensures { result ≡ (op_at ops.now i).reads }
 {
     operation::is_read(op_at(ops, i))
 }
@@ -97,7 +97,7 @@ fn alike(a: bool, b: bool) -> bool
 
 // The operation before goes the same way; the first has none before it.
 fn joined(ops: &[u32], k: u32, reads: bool) -> bool
-    ensures { result ≡ (not (eqb k 0) && beq reads (opAt ops.now (k - 1)).reads) }
+    ensures { result ≡ (not (eqb k 0) && beq reads (op_at ops.now (k - 1)).reads) }
 {
     if k == 0 {
         return false;
@@ -113,8 +113,8 @@ fn at_most_255(n: u32) -> u32
 
 // A piece of a transaction, from where it lies.
 fn list_view(ops: &[u32], position: Position) -> View
-    requires { (length ops.now ≤ 64) × (position.operation ≤ 65535) × (position.at ≤ (opAt ops.now position.operation).size) }
-    ensures { result ≡ viewFrom ops.now position }
+    requires { (length ops.now ≤ 64) × (position.operation ≤ 65535) × (position.at ≤ (op_at ops.now position.operation).size) }
+    ensures { result ≡ view_from ops.now position }
 {
     let k = position.operation;
     let length = op_length(ops, k);
@@ -154,7 +154,7 @@ fn block_start(n: u32, i: u32) -> u32
 
 fn transfer_count(c: Call, n: u32) -> u32
     requires { n ≤ 65535 }
-    ensures { result ≡ length (transferPieces c n) }
+    ensures { result ≡ length (transfer_pieces c n) }
 {
     if moves_bytes(c) {
         if is_manual(c) {
@@ -167,7 +167,7 @@ fn transfer_count(c: Call, n: u32) -> u32
 
 fn transfer_size(c: Call, n: u32, i: u32) -> u32
     requires { i ≤ 65535 }
-    ensures { result ≡ (piece_at (transferPieces c n) i).size }
+    ensures { result ≡ (piece_at (transfer_pieces c n) i).size }
 {
     if moves_bytes(c) {
         if is_manual(c) {
@@ -182,7 +182,7 @@ fn transfer_size(c: Call, n: u32, i: u32) -> u32
 
 fn transfer_start(c: Call, n: u32, i: u32) -> u32
     requires { i ≤ 65535 }
-    ensures { result ≡ startFrom 0 (transferPieces c n) i }
+    ensures { result ≡ start_from 0 (transfer_pieces c n) i }
 {
     if moves_bytes(c) {
         if is_manual(c) {
@@ -199,7 +199,7 @@ fn transfer_start(c: Call, n: u32, i: u32) -> u32
 // How many bytes a transfer counts as put out, one more than there are: only a manual write does.
 fn transfer_most(c: Call, n: u32) -> u32
     requires { n ≤ 65535 }
-    ensures { result ≡ mostFor c n }
+    ensures { result ≡ most_for c n }
 {
     if is_manual_write(c) {
         return n + 1;
@@ -210,7 +210,7 @@ fn transfer_most(c: Call, n: u32) -> u32
 // All its pieces go one way; past the end is a write.
 fn transfer_view(c: Call, n: u32, i: u32) -> View
     requires { (n ≤ 65535) × (i ≤ 65535) }
-    ensures { result ≡ viewAt (transferPieces c n) (mostFor c n) i }
+    ensures { result ≡ view_at (transfer_pieces c n) (most_for c n) i }
 {
     let k = transfer_count(c, n);
     let receives = is_receiver(c);
@@ -230,7 +230,7 @@ fn transfer_view(c: Call, n: u32, i: u32) -> View
 // The call, of either kind, has a piece at all.
 pub fn has_pieces(c: Call, ops: &[u32], n: u32) -> bool
     requires { n ≤ 65535 }
-    ensures { result ≡ ltb 0 (length (piecesFor c ops.now n)) }
+    ensures { result ≡ ltb 0 (length (pieces_for c ops.now n)) }
 {
     if is_transaction(c) {
         return ops.len() > 0;
@@ -239,8 +239,8 @@ pub fn has_pieces(c: Call, ops: &[u32], n: u32) -> bool
 }
 
 fn list_cursor(ops: &[u32], position: Position) -> Cursor
-    requires { (length ops.now ≤ 64) × (position.operation ≤ 65535) × (position.at ≤ (opAt ops.now position.operation).size) }
-    ensures { result ≡ cursorBy ops.now position }
+    requires { (length ops.now ≤ 64) × (position.operation ≤ 65535) × (position.at ≤ (op_at ops.now position.operation).size) }
+    ensures { result ≡ cursor_by ops.now position }
 {
     Cursor {
         view: list_view(ops, position),
@@ -252,7 +252,7 @@ fn list_cursor(ops: &[u32], position: Position) -> Cursor
 pub fn cursor_at(c: Call, ops: &[u32], n: u32, i: u32) -> Cursor
     requires fit { Fit c ops.now n }
     requires i_bound { i ≤ 65535 }
-    ensures { result ≡ cursorAt c ops.now n i }
+    ensures { result ≡ cursor_at c ops.now n i }
 {
     if is_transaction(c) {
         return list_cursor(ops, position_at(ops, i));
@@ -266,8 +266,8 @@ pub fn cursor_at(c: Call, ops: &[u32], n: u32, i: u32) -> Cursor
 
 // Piece i is there, or is the first of none; k is the operation that it lies in.
 pub fn is_there(c: Call, ops: &[u32], n: u32, k: u32, i: u32) -> bool
-    requires { Fit c ops.now n × (k ≡ (cursorAt c ops.now n i).operation) }
-    ensures { result ≡ ltb i (max 1 (length (piecesFor c ops.now n))) }
+    requires { Fit c ops.now n × (k ≡ (cursor_at c ops.now n i).operation) }
+    ensures { result ≡ ltb i (max 1 (length (pieces_for c ops.now n))) }
 {
     if is_transaction(c) {
         return (i == 0) | ((k as usize) < ops.len());
@@ -278,7 +278,7 @@ pub fn is_there(c: Call, ops: &[u32], n: u32, k: u32, i: u32) -> bool
 // Where the next piece lies: in the same operation, or in the one after it.
 fn position_after(ops: &[u32], p: Cursor) -> Position
     requires { (p.view.start + p.view.size ≤ 65535) × (p.operation ≤ 65535) × (p.at ≤ 65535) }
-    ensures { result ≡ positionAfter ops.now p }
+    ensures { result ≡ position_after ops.now p }
 {
     let v = p.view;
     let start = v.start + v.size;
@@ -300,8 +300,8 @@ fn position_after(ops: &[u32], p: Cursor) -> Position
 pub fn cursor_after(c: Call, ops: &[u32], n: u32, p: Cursor, i: u32, j: u32) -> Cursor
     requires fit { Fit c ops.now n }
     requires i_bound { (i ≤ 65535) × (j ≤ 65535) }
-    requires p_value { p ≡ cursorAt c ops.now n i }
-    ensures { result ≡ cursorAt c ops.now n j }
+    requires p_value { p ≡ cursor_at c ops.now n i }
+    ensures { result ≡ cursor_at c ops.now n j }
 {
     if j == i {
         return p;

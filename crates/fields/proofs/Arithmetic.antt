@@ -8,9 +8,9 @@ use lib.Bits.{bit_and, bit_or, and_mask, and_block, and_high, or_block, or_shift
 use lib.Pow.{pow_pos, pow-add, split, high, low, field, mod-mod-pow, shr-shr, shr_lt, shl_exact, ones_split, ones_lt, high_ones}
 use Rattle.fields.specs.Field.{bits_at, with_bits}
 
-pub bits-lt : (w a n : ℕ) → bits_at w a n < 2 ^ n
+pub bits_lt : (w a n : ℕ) → bits_at w a n < 2 ^ n
 unfolding bits_at
-bits-lt w a n = mod-lt (w / 2 ^ a) (pow_pos n)
+bits_lt w a n = mod-lt (w / 2 ^ a) (pow_pos n)
 
 module _ (w a n v : ℕ) where
   -- below the field nothing changes
@@ -26,27 +26,27 @@ module _ (w a n v : ℕ) where
   above : with_bits w a n v / 2 ^ a / 2 ^ n ≡ w / 2 ^ a / 2 ^ n
   above = rw from (high _ n (mod-lt v (pow_pos n)))
 
-  pub bits-with : bits_at (with_bits w a n v) a n ≡ v % 2 ^ n
+  pub bits_with : bits_at (with_bits w a n v) a n ≡ v % 2 ^ n
   unfolding bits_at
-  bits-with = rw from (low _ n (mod-lt v (pow_pos n)))
+  bits_with = rw from (low _ n (mod-lt v (pow_pos n)))
 
-pub with-low : (w a n u v : ℕ) → u % 2 ^ n ≡ v % 2 ^ n → with_bits w a n u ≡ with_bits w a n v
+pub with_low : (w a n u v : ℕ) → u % 2 ^ n ≡ v % 2 ^ n → with_bits w a n u ≡ with_bits w a n v
 unfolding with_bits
-with-low w a n u v e = rw e
+with_low w a n u v e = rw e
 
-pub with-with : (w a n u v : ℕ) → with_bits (with_bits w a n u) a n v ≡ with_bits w a n v
+pub with_with : (w a n u v : ℕ) → with_bits (with_bits w a n u) a n v ≡ with_bits w a n v
 unfolding with_bits
-with-with w a n u v =
+with_with w a n u v =
     ap₂ (λ (h l : ℕ). (h * 2 ^ n + v % 2 ^ n) * 2 ^ a + l) (above w a n u) (below w a n u)
 
-pub with-bits : (w a n : ℕ) → with_bits w a n (bits_at w a n) ≡ w
+pub with_bits_holds : (w a n : ℕ) → with_bits w a n (bits_at w a n) ≡ w
 unfolding with_bits bits_at
-with-bits w a n = rw (mod-mod, split, split)
+with_bits_holds w a n = rw (mod-mod, split, split)
 
 -- a field put above all that is set is added
-pub with-on : (w a n v : ℕ) → w < 2 ^ a → v < 2 ^ n → with_bits w a n v ≡ v * 2 ^ a + w
+pub with_on : (w a n v : ℕ) → w < 2 ^ a → v < 2 ^ n → with_bits w a n v ≡ v * 2 ^ a + w
 unfolding with_bits
-with-on w a n v hw hv = simp (div-eq_of_lt hw, zero-div, zero-mul, zero-add, mod-eq_of_lt hv, mod-eq_of_lt hw)
+with_on w a n v hw hv = simp (div-eq_of_lt hw, zero-div, zero-mul, zero-add, mod-eq_of_lt hv, mod-eq_of_lt hw)
 
 -- a field goes by the bits below its end
 lower : (w b m a : ℕ) → b + m ≤ a → bits_at (w % 2 ^ a) b m ≡ bits_at w b m
@@ -68,25 +68,25 @@ upper w b m a n h =
     ∙ ap (λ (x : ℕ). x / 2 ^ (b - (a + n))) (sym (shr-shr w a n)))
 
 -- a field of a field is one of the word
-pub bits-within : (w a n b m : ℕ) → b + m ≤ n → bits_at (bits_at w a n) b m ≡ bits_at w (a + b) m
+pub bits_within : (w a n b m : ℕ) → b + m ≤ n → bits_at (bits_at w a n) b m ≡ bits_at w (a + b) m
 unfolding bits_at
-bits-within w a n b m h = lower (w / 2 ^ a) b m n h ∙ ap (λ (x : ℕ). x % 2 ^ m) (shr-shr w a b)
+bits_within w a n b m h = lower (w / 2 ^ a) b m n h ∙ ap (λ (x : ℕ). x % 2 ^ m) (shr-shr w a b)
 
 -- so a write leaves a field that ends at or before its own start, and one that starts at or after its end
-pub bits-before : (w a n v b m : ℕ) → b + m ≤ a → bits_at (with_bits w a n v) b m ≡ bits_at w b m
-bits-before w a n v b m h =
+pub bits_before : (w a n v b m : ℕ) → b + m ≤ a → bits_at (with_bits w a n v) b m ≡ bits_at w b m
+bits_before w a n v b m h =
     sym (lower (with_bits w a n v) b m a h) ∙ ap (λ (x : ℕ). bits_at x b m) (below w a n v) ∙ lower w b m a h
 
-pub bits-after : (w a n v b m : ℕ) → a + n ≤ b → bits_at (with_bits w a n v) b m ≡ bits_at w b m
-bits-after w a n v b m h =
+pub bits_after : (w a n v b m : ℕ) → a + n ≤ b → bits_at (with_bits w a n v) b m ≡ bits_at w b m
+bits_after w a n v b m h =
     upper (with_bits w a n v) b m a n h
     ∙ ap (λ (x : ℕ). bits_at x (b - (a + n)) m) (above w a n v)
     ∙ sym (upper w b m a n h)
 
 -- a word keeps its size
-pub with-lt : (w a n v s : ℕ) → w < 2 ^ s → a + n ≤ s → with_bits w a n v < 2 ^ s
+pub with_lt : (w a n v s : ℕ) → w < 2 ^ s → a + n ≤ s → with_bits w a n v < 2 ^ s
 unfolding with_bits
-with-lt w a n v s hw h =
+with_lt w a n v s hw h =
     subst (λ (x : ℕ). with_bits w a n v < x) e
     (digits_lt (digits_lt hi (mod-lt v (pow_pos n))) (mod-lt w (pow_pos a)))
   where

@@ -5,8 +5,8 @@ use Prim.Native.Nat.{ℕ, ◌+◌, ◌-◌, ◌*◌, ◌%◌, ◌^◌, ◌≤◌
 use native.Mathlib.Omega.{arith}
 use lib.Dec.{T, leb, ltb, leb→le, ltb→lt}
 use lib.Pow.{pow_pos}
-use Rattle.fields.specs.Field.{Place, place, inside, bits_at, with_bits, getOf, put_of, apart}
-use Rattle.fields.proofs.Arithmetic.{bits-lt, bits-with, bits-within, with-low, with-with, with-bits, with-on, bits-before, bits-after, with-lt}
+use Rattle.fields.specs.Field.{Place, place, inside, bits_at, with_bits, get_of, put_of, apart}
+use Rattle.fields.proofs.Arithmetic.{bits_lt, bits_with, bits_within, with_low, with_with, with_bits_holds, with_on, bits_before, bits_after, with_lt}
 
 -- by whether a place lies within the word
 by : (P : Bool → Type 0) (b : Bool) → (T b → P true) → P false → P b
@@ -30,28 +30,28 @@ either true b P f g t = f t
 either false b P f g t = g t
 
 -- a field keeps its low bits
-pub get-lt : (w : ℕ) (p : Place) → getOf w p < 2 ^ p.width
-unfolding getOf
-get-lt w p =
+pub get_lt : (w : ℕ) (p : Place) → get_of w p < 2 ^ p.width
+unfolding get_of
+get_lt w p =
     by (λ (b : Bool). cond b (bits_at w p.at p.width) 0 < 2 ^ p.width) (inside p)
-    (λ _. bits-lt w p.at p.width)
+    (λ _. bits_lt w p.at p.width)
     (pow_pos p.width)
 
 pub put_low : (w : ℕ) (p : Place) (u v : ℕ) → u % 2 ^ p.width ≡ v % 2 ^ p.width → put_of w p u ≡ put_of w p v
 unfolding put_of
-put_low w p u v e = ap (λ (x : ℕ). cond (inside p) x w) (with-low w p.at p.width u v e)
+put_low w p u v e = ap (λ (x : ℕ). cond (inside p) x w) (with_low w p.at p.width u v e)
 
 -- get after put
-pub get-put : (w : ℕ) (p : Place) (v : ℕ) → T (inside p) → getOf (put_of w p v) p ≡ v % 2 ^ p.width
-unfolding getOf put_of
-get-put w p v t =
-    rw (is_true (inside p) t) (bits-with w p.at p.width v)
+pub get_put : (w : ℕ) (p : Place) (v : ℕ) → T (inside p) → get_of (put_of w p v) p ≡ v % 2 ^ p.width
+unfolding get_of put_of
+get_put w p v t =
+    rw (is_true (inside p) t) (bits_with w p.at p.width v)
 
 -- put leaves every field that shares no bit
-pub get-apart : (w : ℕ) (p q : Place) (v : ℕ) → T (apart p q) → getOf (put_of w p v) q ≡ getOf w q
-unfolding getOf put_of
-get-apart w p q v t =
-    by (λ (b : Bool). cond (inside q) (bits_at (cond b (with_bits w p.at p.width v) w) q.at q.width) 0 ≡ getOf w q)
+pub get_apart : (w : ℕ) (p q : Place) (v : ℕ) → T (apart p q) → get_of (put_of w p v) q ≡ get_of w q
+unfolding get_of put_of
+get_apart w p q v t =
+    by (λ (b : Bool). cond (inside q) (bits_at (cond b (with_bits w p.at p.width v) w) q.at q.width) 0 ≡ get_of w q)
     (inside p)
     (λ _. ap (λ (x : ℕ). cond (inside q) x 0) kept)
     refl
@@ -59,47 +59,47 @@ get-apart w p q v t =
     kept : bits_at (with_bits w p.at p.width v) q.at q.width ≡ bits_at w q.at q.width
     kept =
         either (leb (p.at + p.width) q.at) (leb (q.at + q.width) p.at) _
-        (λ h. bits-after w p.at p.width v q.at q.width (leb→le _ _ h))
-        (λ h. bits-before w p.at p.width v q.at q.width (leb→le _ _ h))
+        (λ h. bits_after w p.at p.width v q.at q.width (leb→le _ _ h))
+        (λ h. bits_before w p.at p.width v q.at q.width (leb→le _ _ h))
         t
 
 -- a field of a field is one of the word
-pub get-within : (w : ℕ) (p q : Place) → T (inside p) → T (inside q) → T (inside (place (p.at + q.at) q.width)) →
-    q.at + q.width ≤ p.width → getOf (getOf w p) q ≡ getOf w (place (p.at + q.at) q.width)
-unfolding getOf
-get-within w p q t u v h =
+pub get_within : (w : ℕ) (p q : Place) → T (inside p) → T (inside q) → T (inside (place (p.at + q.at) q.width)) →
+    q.at + q.width ≤ p.width → get_of (get_of w p) q ≡ get_of w (place (p.at + q.at) q.width)
+unfolding get_of
+get_within w p q t u v h =
     rw (is_true (inside p) t, is_true (inside q) u, is_true (inside (place (p.at + q.at) q.width)) v)
-    (bits-within w p.at p.width q.at q.width h)
+    (bits_within w p.at p.width q.at q.width h)
 
 -- put twice is the last put
-pub put-put : (w : ℕ) (p : Place) (u v : ℕ) → put_of (put_of w p u) p v ≡ put_of w p v
+pub put_put : (w : ℕ) (p : Place) (u v : ℕ) → put_of (put_of w p u) p v ≡ put_of w p v
 unfolding put_of
-put-put w p u v =
+put_put w p u v =
     by (λ (b : Bool). cond b (with_bits (cond b (with_bits w p.at p.width u) w) p.at p.width v) (cond b (with_bits w p.at p.width u) w)
     ≡ cond b (with_bits w p.at p.width v) w)
     (inside p)
-    (λ _. with-with w p.at p.width u v)
+    (λ _. with_with w p.at p.width u v)
     refl
 
 -- putting back what was got changes nothing
-pub put-get : (w : ℕ) (p : Place) → put_of w p (getOf w p) ≡ w
-unfolding put_of getOf
-put-get w p =
+pub put_get : (w : ℕ) (p : Place) → put_of w p (get_of w p) ≡ w
+unfolding put_of get_of
+put_get w p =
     by (λ (b : Bool). cond b (with_bits w p.at p.width (cond b (bits_at w p.at p.width) 0)) w ≡ w) (inside p)
-    (λ _. with-bits w p.at p.width)
+    (λ _. with_bits_holds w p.at p.width)
     refl
 
 -- a field put above all that is set is added
 pub put_on : (w : ℕ) (p : Place) (v : ℕ) → T (inside p) → w < 2 ^ p.at → v < 2 ^ p.width → put_of w p v ≡ v * 2 ^ p.at + w
 unfolding put_of
-put_on w p v t hw hv = rw (is_true (inside p) t) (with-on w p.at p.width v hw hv)
+put_on w p v t hw hv = rw (is_true (inside p) t) (with_on w p.at p.width v hw hv)
 
 -- a word stays a word
-pub put-lt : (w : ℕ) (p : Place) (v : ℕ) → w < 2 ^ 32 → put_of w p v < 2 ^ 32
+pub put_lt : (w : ℕ) (p : Place) (v : ℕ) → w < 2 ^ 32 → put_of w p v < 2 ^ 32
 unfolding put_of
-put-lt w p v h =
+put_lt w p v h =
     by (λ (b : Bool). cond b (with_bits w p.at p.width v) w < 2 ^ 32) (inside p)
-    (λ t. with-lt w p.at p.width v 32 h (ends t))
+    (λ t. with_lt w p.at p.width v 32 h (ends t))
     h
   where
     ends : T (inside p) → p.at + p.width ≤ 32

@@ -20,8 +20,8 @@ unfoldable pub with_bits : ℕ → ℕ → ℕ → ℕ → ℕ
 with_bits word at width value = (word / 2 ^ at / 2 ^ width * 2 ^ width + value % 2 ^ width) * 2 ^ at + word % 2 ^ at
 
 -- A field is read, and written. A place that does not lie within the word holds 0 and takes nothing.
-unfoldable pub getOf : ℕ → Place → ℕ
-getOf word p = cond (inside p) (bits_at word p.at p.width) 0
+unfoldable pub get_of : ℕ → Place → ℕ
+get_of word p = cond (inside p) (bits_at word p.at p.width) 0
 
 unfoldable pub put_of : ℕ → Place → ℕ → ℕ
 put_of word p value = cond (inside p) (with_bits word p.at p.width value) word
@@ -33,8 +33,8 @@ place at width = record { at = at; width = width }
 abbrev pub bit : ℕ → Place
 bit at = place at 1
 
-abbrev pub flagOf : ℕ → Place → Bool
-flagOf word p = eqb (getOf word p) 1
+abbrev pub flag_of : ℕ → Place → Bool
+flag_of word p = eqb (get_of word p) 1
 
 abbrev pub number : Bool → ℕ
 number true = 1
@@ -47,11 +47,11 @@ mark_of word p on = put_of word p (number on)
 abbrev pub apart : Place → Place → Bool
 apart p q = leb (p.at + p.width) q.at || leb (q.at + q.width) p.at
 
-abbrev pub apartFromAll : Place → List Place → Bool
-apartFromAll p [] = true
-apartFromAll p (q ∷ qs) = apart p q && apartFromAll p qs
+abbrev pub apart_from_all : Place → List Place → Bool
+apart_from_all p [] = true
+apart_from_all p (q ∷ qs) = apart p q && apart_from_all p qs
 
 -- A register's layout: each field lies within the word, and no two share a bit.
 abbrev pub layout : List Place → Bool
 layout [] = true
-layout (p ∷ ps) = inside p && (apartFromAll p ps && layout ps)
+layout (p ∷ ps) = inside p && (apart_from_all p ps && layout ps)

@@ -1,6 +1,6 @@
 // Fields of a register word: read, written and tested. Which place is which register's field is the crate `registers`.
 ghost use Rattle.std.specs.Prelude.{◌≡◌, ◌+◌, ◌-◌, ◌^◌, ◌≤◌, ◌<◌, min};
-ghost use Rattle.fields.specs.Field.{bits_at, with_bits, getOf, put_of, flagOf, mark_of, place, bit};
+ghost use Rattle.fields.specs.Field.{bits_at, with_bits, get_of, put_of, flag_of, mark_of, place, bit};
 
 // The lowest `width` bits, set. It is worked out in 64 bits, because a word of 32 cannot be shifted by 32.
 fn mask(width: u32) -> u32
@@ -29,7 +29,7 @@ fn with_bits(word: u32, at: u32, width: u32, value: u32) -> u32
 
 // The field of `width` bits from bit `at` on; 0 where the word has no such field.
 pub fn get(word: u32, at: u32, width: u32) -> u32
-    ensures { result ≡ getOf word (place at width) }
+    ensures { result ≡ get_of word (place at width) }
 {
     if at >= 32 {
         return 0;
@@ -61,14 +61,14 @@ fn least(a: u32, b: u32) -> u32
 
 // A field of at most eight bits, as a byte; of a wider one the low eight bits.
 pub fn get_u8(word: u32, at: u32, width: u32) -> u8
-    ensures { result ≡ getOf word (place at (min width 8)) }
+    ensures { result ≡ get_of word (place at (min width 8)) }
 {
     let narrow = least(width, 8);
     get(word, at, narrow) as u8
 }
 
 pub fn flag(word: u32, at: u32) -> bool
-    ensures { result ≡ flagOf word (bit at) }
+    ensures { result ≡ flag_of word (bit at) }
 {
     get(word, at, 1) == 1
 }

@@ -5,7 +5,7 @@ use Rattle.driver.proofs.CameBack.{CameBack}
 use Rattle.driver.proofs.Demand.{BeginCall, beginning, demand}
 use Rattle.driver.proofs.Demand as driver
 use Rattle.driver.specs.Demand.{Advancing, After, DriverDemand3}
-use Rattle.in_place.specs.Demand.{AdvancingInPlace, byValue}
+use Rattle.in_place.specs.Demand.{AdvancingInPlace, by_value}
 use Rattle.in_place.proofs.Contract.{Post}
 use Rattle.in_place.specs.contracts.advance as advance
 use Rattle.in_place.proofs.advance.Reads as advance-reads
@@ -19,10 +19,10 @@ InPlaceCall = CameBack in_place.ended Post
 abbrev pub ValueCall : Type 0
 ValueCall = CameBack advance.ended advance-reads.Post
 
-abbrev pub inPlaceOf : InPlaceCall → AdvancingInPlace
-inPlaceOf C =
+abbrev pub in_place_of : InPlaceCall → AdvancingInPlace
+in_place_of C =
     let (d, (ops, (saved, (buffer, (answers, (log, _)))))) = C.given in
-    let (_, (_, (savedLeft, (bufferLeft, (_, (logLeft, _)))))) = C.left in
+    let (_, (_, (saved_left, (buffer_left, (_, (log_left, _)))))) = C.left in
     record {
       description = d;
       operations = ops.now;
@@ -31,22 +31,22 @@ inPlaceOf C =
       answers = answers.now;
       log = log.now;
       progress = C.gave;
-      savedLeft = savedLeft.now;
-      bufferLeft = bufferLeft.now;
-      logLeft = logLeft.now;
+      saved_left = saved_left.now;
+      buffer_left = buffer_left.now;
+      log_left = log_left.now;
       contract = C.contract;
     }
 
 -- A call of either. The contract of `advance` is that of the driver's to the letter, and so a call of it is one of those.
 pub data Called : Type 0 where
   lent : InPlaceCall → Called
-  by_value : ValueCall → Called
+  by_value_holds : ValueCall → Called
 
 abbrev pub advancing : Called → Advancing
-advancing (lent C) = byValue (inPlaceOf C)
-advancing (by_value C) = driver.advancing C
+advancing (lent C) = by_value (in_place_of C)
+advancing (by_value_holds C) = driver.advancing C
 
 -- every begin, and every list of either after it
-pub in-place-demand-3 : (B : BeginCall) (Cs : List Called) → After (beginning B) (map advancing Cs) →
+pub in_place_demand_3 : (B : BeginCall) (Cs : List Called) → After (beginning B) (map advancing Cs) →
     DriverDemand3 (beginning B) (map advancing Cs)
-in-place-demand-3 B Cs h = demand (beginning B) (map advancing Cs) h
+in_place_demand_3 B Cs h = demand (beginning B) (map advancing Cs) h

@@ -6,12 +6,12 @@ use mathlib.Core.Bool.{not}
 use mathlib.Core.List.{List, [], ◌∷◌, map}
 use lib.Dec.{T, T_not}
 use lib.ListN.{length}
-use Rattle.calls.proofs.Cut.{refusal-stops}
+use Rattle.calls.proofs.Cut.{refusal_stops}
 use Rattle.calls.proofs.Joined.{within}
 use Rattle.calls.proofs.Logic.{is_true, is_false}
-use Rattle.calls.specs.Advances.{Advance, isRefusal, refused, NoRun}
+use Rattle.calls.specs.Advances.{Advance, is_refusal, refused, NoRun}
 use Rattle.calls.specs.Demand.{Demand3, Kept}
-use Rattle.calls.specs.Refusals.{requestOf, checkOf}
+use Rattle.calls.specs.Refusals.{request_of, check_of}
 use Rattle.calls.specs.Run.{Final, run_of}
 use Rattle.calls.specs.declared.Call.{Call}
 use Rattle.calls.specs.declared.Description.{Description}
@@ -22,8 +22,8 @@ use Rattle.calls.specs.declared.Verdict.TheVariants.{Accepted, Refused}
 use Rattle.driver.proofs.Demand.{BeginCall, beginning, AdvanceCall}
 use Rattle.driver.proofs.Demand as driver
 use Rattle.driver.specs.Demand.{Advancing, InTurn}
-use Rattle.in_place.specs.Demand.{AdvancingInPlace}
-use Rattle.in_place.proofs.Demand.{InPlaceCall, inPlaceOf, ValueCall, Called, lent, by_value, advancing, in-place-demand-3}
+use Rattle.in_place_holds.specs.Demand.{AdvancingInPlace}
+use Rattle.in_place_holds.proofs.Demand.{InPlaceCall, in_place_of, ValueCall, Called, lent, by_value_holds, advancing, in_place_demand_3}
 
 -- ---- one call, in its own terms
 
@@ -36,21 +36,21 @@ record LentTheSame (A D : Advancing) : Type 0 where
   answers : A.advance.answers ≡ D.advance.answers
   log : A.advance.log ≡ D.advance.log
 
-same-final : (A D : Advancing) → LentTheSame A D →
-    ◌≡◌ {A = Final} (record { advanced = A.advance.result; buffer = A.advance.bufferLeft; log = A.advance.logLeft })
-    (record { advanced = D.advance.result; buffer = D.advance.bufferLeft; log = D.advance.logLeft })
-same-final A D l = A.contract ∙ rw (l.description, l.operations, l.saved, l.buffer, l.answers, l.log) (sym D.contract)
+same_final : (A D : Advancing) → LentTheSame A D →
+    ◌≡◌ {A = Final} (record { advanced = A.advance.result; buffer = A.advance.buffer_left; log = A.advance.log_left })
+    (record { advanced = D.advance.result; buffer = D.advance.buffer_left; log = D.advance.log_left })
+same_final A D l = A.contract ∙ rw (l.description, l.operations, l.saved, l.buffer, l.answers, l.log) (sym D.contract)
 
 module _ (P : InPlaceCall) where
-  abbrev in_place : AdvancingInPlace
-  in_place = inPlaceOf P
+  abbrev in_place_holds : AdvancingInPlace
+  in_place_holds = in_place_of P
 
-  as-by-value : (D : AdvanceCall) → LentTheSame (advancing (lent P)) (driver.advancing D) →
+  as_by_value : (D : AdvanceCall) → LentTheSame (advancing (lent P)) (driver.advancing D) →
       (P.gave.used ≡ D.gave.used) × (P.gave.written ≡ D.gave.written) × (P.gave.report ≡ D.gave.report)
-      × (in_place.savedLeft ≡ D.gave.saved) × (in_place.bufferLeft ≡ (driver.advancing D).advance.bufferLeft)
-      × (in_place.logLeft ≡ (driver.advancing D).advance.logLeft)
-  as-by-value D l =
-      let e = same-final (advancing (lent P)) (driver.advancing D) l in (
+      × (in_place_holds.saved_left ≡ D.gave.saved) × (in_place_holds.buffer_left ≡ (driver.advancing D).advance.buffer_left)
+      × (in_place_holds.log_left ≡ (driver.advancing D).advance.log_left)
+  as_by_value D l =
+      let e = same_final (advancing (lent P)) (driver.advancing D) l in (
         ap (λ (F : Final). F.advanced.used) e,
         ap (λ (F : Final). F.advanced.written) e,
         ap (λ (F : Final). F.advanced.report) e,
@@ -60,14 +60,14 @@ module _ (P : InPlaceCall) where
       )
 
   -- refused it uses nothing, writes nothing, and leaves saved call, buffer and log as they were lent
-  refused-leaves-all : T (isRefusal P.gave.report) →
-      (P.gave.used ≡ 0) × (P.gave.written ≡ 0) × (in_place.savedLeft ≡ in_place.saved)
-      × (in_place.bufferLeft ≡ in_place.buffer) × (in_place.logLeft ≡ in_place.log)
+  refused_leaves_all : T (is_refusal P.gave.report) →
+      (P.gave.used ≡ 0) × (P.gave.written ≡ 0) × (in_place_holds.saved_left ≡ in_place_holds.saved)
+      × (in_place_holds.buffer_left ≡ in_place_holds.buffer) × (in_place_holds.log_left ≡ in_place_holds.log)
   unfolding run_of
-  refused-leaves-all h =
-      let f = in_place.contract in
-      let z = refusal-stops (checkOf in_place.description in_place.operations (length in_place.buffer)) in_place.description
-      in_place.operations (length in_place.log / 2) in_place.saved in_place.buffer in_place.answers
+  refused_leaves_all h =
+      let f = in_place_holds.contract in
+      let z = refusal_stops (check_of in_place_holds.description in_place_holds.operations (length in_place_holds.buffer)) in_place_holds.description
+      in_place_holds.operations (length in_place_holds.log / 2) in_place_holds.saved in_place_holds.buffer in_place_holds.answers
       (rw (ap (λ (F : Final). F.advanced.report) f) at h) in (
         ap (λ (F : Final). F.advanced.used) f ∙ z.used,
         ap (λ (F : Final). F.advanced.written) f ∙ ap length z.entries,
@@ -77,33 +77,33 @@ module _ (P : InPlaceCall) where
       )
 
   -- and always stays within what it was lent
-  stays_within : (P.gave.written ≤ length in_place.log / 2) × (P.gave.used ≤ length in_place.answers)
-      × (length in_place.bufferLeft ≡ length in_place.buffer)
+  stays_within : (P.gave.written ≤ length in_place_holds.log / 2) × (P.gave.used ≤ length in_place_holds.answers)
+      × (length in_place_holds.buffer_left ≡ length in_place_holds.buffer)
   stays_within =
-      let f = in_place.contract in
-      let w = within in_place.description in_place.operations (length in_place.log / 2) in_place.saved in_place.buffer in_place.answers in (
+      let f = in_place_holds.contract in
+      let w = within in_place_holds.description in_place_holds.operations (length in_place_holds.log / 2) in_place_holds.saved in_place_holds.buffer in_place_holds.answers in (
         rw (ap (λ (F : Final). F.advanced.written) f) w.entries,
         rw (ap (λ (F : Final). F.advanced.used) f) w.used,
         ap (λ (F : Final). length F.buffer) f ∙ w.buffer,
       )
 
 -- the one with plain parameters returns what the driver's returns
-same-by-value : (Q : ValueCall) (D : AdvanceCall) → LentTheSame (advancing (by_value Q)) (driver.advancing D) →
-    (Q.gave ≡ D.gave) × ((advancing (by_value Q)).advance.bufferLeft ≡ (driver.advancing D).advance.bufferLeft)
-    × ((advancing (by_value Q)).advance.logLeft ≡ (driver.advancing D).advance.logLeft)
-same-by-value Q D l =
-    let e = same-final (advancing (by_value Q)) (driver.advancing D) l in
+same_by_value : (Q : ValueCall) (D : AdvanceCall) → LentTheSame (advancing (by_value_holds Q)) (driver.advancing D) →
+    (Q.gave ≡ D.gave) × ((advancing (by_value_holds Q)).advance.buffer_left ≡ (driver.advancing D).advance.buffer_left)
+    × ((advancing (by_value_holds Q)).advance.log_left ≡ (driver.advancing D).advance.log_left)
+same_by_value Q D l =
+    let e = same_final (advancing (by_value_holds Q)) (driver.advancing D) l in
     (ap (λ (F : Final). F.advanced) e, ap (λ (F : Final). F.buffer) e, ap (λ (F : Final). F.log) e)
 
 -- ---- demand 3, of lists that are linked one by one
-abbrev savedOf : Called → SavedCall
-savedOf (lent P) = (inPlaceOf P).saved
-savedOf (by_value Q) = (advancing (by_value Q)).saved
+abbrev saved_of : Called → SavedCall
+saved_of (lent P) = (in_place_of P).saved
+saved_of (by_value_holds Q) = (advancing (by_value_holds Q)).saved
 
 -- the saved call as the call left it, in place or returned
-abbrev savedLeft : Called → SavedCall
-savedLeft (lent P) = (inPlaceOf P).savedLeft
-savedLeft (by_value Q) = Q.gave.saved
+abbrev saved_left : Called → SavedCall
+saved_left (lent P) = (in_place_of P).saved_left
+saved_left (by_value_holds Q) = Q.gave.saved
 
 abbrev advance : Called → Advance
 advance C = (advancing C).advance
@@ -111,33 +111,33 @@ advance C = (advancing C).advance
 data Linked (d : Description) (ops : List ℕ) : List Called → SavedCall → List ℕ → Type 0 where
   end : {s : SavedCall} {b : List ℕ} → Linked d ops [] s b
   apart : {C : Called} {Cs : List Called} {s : SavedCall} {b : List ℕ} →
-      savedOf C ≡ s → T (refused (advance C)) → Linked d ops Cs (savedLeft C) b → Linked d ops (C ∷ Cs) s b
+      saved_of C ≡ s → T (refused (advance C)) → Linked d ops Cs (saved_left C) b → Linked d ops (C ∷ Cs) s b
   on : {C : Called} {Cs : List Called} {s : SavedCall} {b : List ℕ} →
-      savedOf C ≡ s → (advance C).words ≡ d → (advance C).operations ≡ ops → (advance C).buffer ≡ b → T (not (refused (advance C))) →
-      Linked d ops Cs (savedLeft C) (advance C).bufferLeft → Linked d ops (C ∷ Cs) s b
+      saved_of C ≡ s → (advance C).words ≡ d → (advance C).operations ≡ ops → (advance C).buffer ≡ b → T (not (refused (advance C))) →
+      Linked d ops Cs (saved_left C) (advance C).buffer_left → Linked d ops (C ∷ Cs) s b
 
-same-saved : (C : Called) → (advancing C).saved ≡ savedOf C
-same-saved (lent P) = refl
-same-saved (by_value Q) = refl
+same_saved : (C : Called) → (advancing C).saved ≡ saved_of C
+same_saved (lent P) = refl
+same_saved (by_value_holds Q) = refl
 
-same_left : (C : Called) → (advance C).result.saved ≡ savedLeft C
+same_left : (C : Called) → (advance C).result.saved ≡ saved_left C
 same_left (lent P) = refl
-same_left (by_value Q) = refl
+same_left (by_value_holds Q) = refl
 
-in-turn : (d : Description) (ops : List ℕ) (Cs : List Called) (s : SavedCall) (b : List ℕ) → Linked d ops Cs s b → InTurn d ops s b (map advancing Cs)
-in-turn d ops [] s b end = tt
-in-turn d ops (C ∷ Cs) s b (apart e r l) = (
+in_turn : (d : Description) (ops : List ℕ) (Cs : List Called) (s : SavedCall) (b : List ℕ) → Linked d ops Cs s b → InTurn d ops s b (map advancing Cs)
+in_turn d ops [] s b end = tt
+in_turn d ops (C ∷ Cs) s b (apart e r l) = (
   record {
-    saved = same-saved C ∙ e;
+    saved = same_saved C ∙ e;
     description = λ n. absurd (T_not (refused (advance C)) n r);
     operations = λ n. absurd (T_not (refused (advance C)) n r);
     buffer = λ n. absurd (T_not (refused (advance C)) n r);
   },
-  rw (is_true (refused (advance C)) r, same_left C) (in-turn d ops Cs (savedLeft C) b l),
+  rw (is_true (refused (advance C)) r, same_left C) (in_turn d ops Cs (saved_left C) b l),
 )
-in-turn d ops (C ∷ Cs) s b (on e f g h n l) = (
-  record { saved = same-saved C ∙ e; description = λ _. f; operations = λ _. g; buffer = λ _. h },
-  rw (is_false (refused (advance C)) n, same_left C) (in-turn d ops Cs (savedLeft C) (advance C).bufferLeft l),
+in_turn d ops (C ∷ Cs) s b (on e f g h n l) = (
+  record { saved = same_saved C ∙ e; description = λ _. f; operations = λ _. g; buffer = λ _. h },
+  rw (is_false (refused (advance C)) n, same_left C) (in_turn d ops Cs (saved_left C) (advance C).buffer_left l),
 )
 
 -- the advances by value that the calls are
@@ -149,12 +149,12 @@ module _ (B : BeginCall) (Cs : List Called)
   demand : (v : Verdict) → B.gave.verdict ≡ v → Demand3 v (beginning B).description (beginning B).operations (beginning B).buffer (advances Cs)
   demand v e =
       subst (λ (v : Verdict). Demand3 v (beginning B).description (beginning B).operations (beginning B).buffer (advances Cs)) e
-      (in-place-demand-3 B Cs (in-turn _ _ Cs _ _ l))
+      (in_place_demand_3 B Cs (in_turn _ _ Cs _ _ l))
 
   -- after an accepted begin they are one uncut run, with all that demand 3 says of its log, its bytes, its count and its accesses
-  one-run : (c : Call) → B.gave.verdict ≡ Accepted c →
-      Kept (requestOf c (beginning B).description (beginning B).operations (length (beginning B).buffer)) (beginning B).buffer (advances Cs)
-  one-run c e = demand (Accepted c) e
+  one_run : (c : Call) → B.gave.verdict ≡ Accepted c →
+      Kept (request_of c (beginning B).description (beginning B).operations (length (beginning B).buffer)) (beginning B).buffer (advances Cs)
+  one_run c e = demand (Accepted c) e
 
   -- after a refused one all are refused, and nothing was done
   no_run : (r : Refusal) → B.gave.verdict ≡ Refused r → NoRun (beginning B).buffer (advances Cs)

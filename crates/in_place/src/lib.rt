@@ -1,8 +1,8 @@
 // The driver's advance with the saved call lent and updated, as the Rust's `&mut self` is: a thin entry over the advance by
 // value.
 ghost use Rattle.std.specs.Prelude.{◌≡◌};
-ghost use Rattle.calls.specs.Run.{asFinal, finalOf};
-ghost use Rattle.in_place.specs.InPlace.{inPlace};
+ghost use Rattle.calls.specs.Run.{as_final, final_of};
+ghost use Rattle.in_place.specs.InPlace.{in_place};
 
 use calls::{Advanced, Description, Report, SavedCall};
 
@@ -23,7 +23,7 @@ pub fn advance_in_place(
     answers: &[u32],
     log: &mut [u32],
 ) -> Progress
-    ensures { inPlace result saved.new buffer.new log.new ≡ finalOf d ops.now saved.old buffer.old answers.now log.old }
+    ensures { in_place result saved.new buffer.new log.new ≡ final_of d ops.now saved.old buffer.old answers.now log.old }
 {
     let a = driver::advance(d, ops, *saved, buffer, answers, log);
     *saved = a.saved;
@@ -43,7 +43,7 @@ pub fn advance(
     answers: &[u32],
     log: &mut [u32],
 ) -> Advanced
-    ensures { asFinal result buffer.new log.new ≡ finalOf d ops.now saved buffer.old answers.now log.old }
+    ensures { as_final result buffer.new log.new ≡ final_of d ops.now saved buffer.old answers.now log.old }
 {
     let mut kept = saved;
     let p = advance_in_place(d, ops, &mut kept, buffer, answers, log);

@@ -11,5 +11,5 @@ pub counted : (n : ℕ) (xs : List ℕ) → n ≤ length xs → IsPrefixLen n xs
 counted n xs h = (h, sym (length-take-le n xs h))
 
 -- what is read past them leaves them
-pub before-part : (n : ℕ) (xs ys : List ℕ) → n ≤ length xs → IsPrefixLen n (take n xs ++ ys)
-before-part n xs ys h = counted n (take n xs ++ ys) (rw (length-append (take n xs) ys, length-take-le n xs h) (omega arith))
+pub before_part : (n : ℕ) (xs ys : List ℕ) → n ≤ length xs → IsPrefixLen n (take n xs ++ ys)
+before_part n xs ys h = counted n (take n xs ++ ys) (rw (length-append (take n xs) ys, length-take-le n xs h) (omega arith))

@@ -12,8 +12,8 @@ pub via : {A B : Type 0} (f : A → B) (r : B) (gave given is : A) → given ≡
 via f r gave given is e g m = m ∙ ap f (sym g ∙ e)
 
 -- and where the code turns it round
-pub not-told : {r t b : Bool} → r ≡ t → not r ≡ b → not t ≡ b
-not-told e h = rw (← e) h
+pub not_told : {r t b : Bool} → r ≡ t → not r ≡ b → not t ≡ b
+not_told e h = rw (← e) h
 
 pub un_not : {r b : Bool} → not r ≡ b → r ≡ not b
 un_not {r} h = go r h
@@ -49,4 +49,4 @@ and_yes t h e = rw h e
 pub and_no : {r : Bool} (t u : Bool) → t ≡ false → r ≡ false → r ≡ (t && u)
 and_no t u h e = rw h e
 
-pub ruleset branches = (told, not-told, turned, yes, no, or_yes, or_no, and_yes, and_no)
+pub ruleset branches = (told, not_told, turned, yes, no, or_yes, or_no, and_yes, and_no)

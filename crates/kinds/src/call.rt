@@ -1,14 +1,14 @@
 // A call: its number, its kind, and what its description has.
 ghost use Rattle.std.specs.Prelude.{◌≡◌, ◌&&◌, ◌||◌, not, ◌<◌, leb};
-ghost use Rattle.calls.specs.Refusals.{lookupOf};
-ghost use Rattle.calls.specs.Calls.{byAck, callNumber, is_call, isKind, transaction, manual, manualWrite, receives, transmits, eventful, isConfigured, isSecondary, hasSecondary};
+ghost use Rattle.calls.specs.Refusals.{lookup_of};
+ghost use Rattle.calls.specs.Calls.{by_ack, call_number, is_call, is_kind, transaction, manual, manual_write, receives, transmits, eventful, is_configured, is_secondary, has_secondary};
 ghost use Rattle.calls.specs.declared.Call.TheVariants.{WaitForEvent, WaitForStop};
 
 use calls::{Ack, Call, Configuration, Lookup, SecondaryAddress};
 
 fn by_ack(n: u32, a: Ack) -> u32
     requires { n < 16 }
-    ensures { result ≡ byAck n a }
+    ensures { result ≡ by_ack n a }
 {
     match a {
         Ack::AutoAck => n,
@@ -17,7 +17,7 @@ fn by_ack(n: u32, a: Ack) -> u32
 }
 
 pub fn number(c: Call) -> u32
-    ensures { result ≡ callNumber c }
+    ensures { result ≡ call_number c }
 {
     match c {
         Call::New => 1,
@@ -40,7 +40,7 @@ pub fn number(c: Call) -> u32
 
 // The listed call of a number.
 pub fn lookup(n: u32) -> Lookup
-    ensures { result ≡ lookupOf n }
+    ensures { result ≡ lookup_of n }
 {
     if n == 1 {
         return Lookup::Listed(Call::New);
@@ -131,7 +131,7 @@ pub fn is_transaction(c: Call) -> bool
 
 // The kinds, each in either acknowledge mode. A match on the call costs one test of its tag; its number costs a table.
 pub fn is_wait_for_event(c: Call) -> bool
-    ensures { result ≡ isKind c WaitForEvent }
+    ensures { result ≡ is_kind c WaitForEvent }
 {
     match c {
         Call::WaitForEvent(_) => true,
@@ -140,7 +140,7 @@ pub fn is_wait_for_event(c: Call) -> bool
 }
 
 pub fn is_wait_for_stop(c: Call) -> bool
-    ensures { result ≡ isKind c WaitForStop }
+    ensures { result ≡ is_kind c WaitForStop }
 {
     match c {
         Call::WaitForStop(_) => true,
@@ -179,7 +179,7 @@ pub fn is_eventful(c: Call) -> bool
 }
 
 fn is_manual_ack(a: Ack) -> bool
-    ensures { result ≡ leb 16 (byAck 0 a) }
+    ensures { result ≡ leb 16 (by_ack 0 a) }
 {
     match a {
         Ack::AutoAck => false,
@@ -209,13 +209,13 @@ pub fn is_auto_receiver(c: Call) -> bool
 
 // A manual write counts the bytes that it puts out.
 pub fn is_manual_write(c: Call) -> bool
-    ensures { result ≡ manualWrite c }
+    ensures { result ≡ manual_write c }
 {
     is_manual(c) & is_transmitter(c)
 }
 
 pub fn has_configuration(config: Configuration) -> bool
-    ensures { result ≡ isConfigured config }
+    ensures { result ≡ is_configured config }
 {
     match config {
         Configuration::Unconfigured => false,
@@ -224,7 +224,7 @@ pub fn has_configuration(config: Configuration) -> bool
 }
 
 fn is_secondary(address: SecondaryAddress) -> bool
-    ensures { result ≡ isSecondary address }
+    ensures { result ≡ is_secondary address }
 {
     match address {
         SecondaryAddress::NoSecondary => false,
@@ -233,7 +233,7 @@ fn is_secondary(address: SecondaryAddress) -> bool
 }
 
 pub fn has_secondary(config: Configuration) -> bool
-    ensures { result ≡ hasSecondary config }
+    ensures { result ≡ has_secondary config }
 {
     match config {
         Configuration::Unconfigured => false,

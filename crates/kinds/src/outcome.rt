@@ -1,11 +1,11 @@
 // An outcome: its number, its value, and what the rules ask of it.
 ghost use Rattle.std.specs.Prelude.{◌≡◌};
-ghost use Rattle.calls.specs.Outcomes.{isDone, isEventRead, outcomeNumber, outcomeValue};
+ghost use Rattle.calls.specs.Outcomes.{is_done, is_event_read, outcome_number, outcome_value};
 
 use calls::Outcome;
 
 pub fn number(o: Outcome) -> u32
-    ensures { result ≡ outcomeNumber o }
+    ensures { result ≡ outcome_number o }
 {
     match o {
         Outcome::Done(_) => 0,
@@ -22,7 +22,7 @@ pub fn number(o: Outcome) -> u32
 }
 
 pub fn is_done(o: Outcome) -> bool
-    ensures { result ≡ isDone o }
+    ensures { result ≡ is_done o }
 {
     match o {
         Outcome::Done(_) => true,
@@ -39,7 +39,7 @@ pub fn is_done(o: Outcome) -> bool
 }
 
 pub fn is_event_read(o: Outcome) -> bool
-    ensures { result ≡ isEventRead o }
+    ensures { result ≡ is_event_read o }
 {
     match o {
         Outcome::Done(_) => false,
@@ -57,7 +57,7 @@ pub fn is_event_read(o: Outcome) -> bool
 
 // The count of bytes or the address that an outcome comes with.
 pub fn value(o: Outcome) -> u32
-    ensures { result ≡ outcomeValue o }
+    ensures { result ≡ outcome_value o }
 {
     match o {
         Outcome::Done(n) => n,

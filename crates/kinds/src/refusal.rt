@@ -1,11 +1,11 @@
 // A refusal: its number.
 ghost use Rattle.std.specs.Prelude.{◌≡◌};
-ghost use Rattle.calls.specs.Outcomes.{refusalNumber};
+ghost use Rattle.calls.specs.Outcomes.{refusal_number};
 
 use calls::Refusal;
 
 pub fn number(why: Refusal) -> u32
-    ensures { result ≡ refusalNumber why }
+    ensures { result ≡ refusal_number why }
 {
     match why {
         Refusal::Address => 8,

@@ -1,8 +1,8 @@
 // A report: its number, its value, the register that is awaited, and whether an advance is refused or can go on.
 ghost use Rattle.std.specs.Prelude.{◌≡◌};
-ghost use Rattle.calls.specs.Advances.{isRefusal};
-ghost use Rattle.calls.specs.Joined.{isFull};
-ghost use Rattle.calls.specs.Outcomes.{reportNumber, reportValue, awaitedOf};
+ghost use Rattle.calls.specs.Advances.{is_refusal};
+ghost use Rattle.calls.specs.Joined.{is_full};
+ghost use Rattle.calls.specs.Outcomes.{report_number, report_value, awaited_of};
 
 use crate::{outcome, refusal};
 use calls::Report;
@@ -15,7 +15,7 @@ const REFUSED: u32 = WAITING + 1;
 const FULL: u32 = REFUSED + 1;
 
 pub fn number(report: Report) -> u32
-    ensures { result ≡ reportNumber report }
+    ensures { result ≡ report_number report }
 {
     match report {
         Report::Over(o) => outcome::number(o),
@@ -26,7 +26,7 @@ pub fn number(report: Report) -> u32
 }
 
 pub fn value(report: Report) -> u32
-    ensures { result ≡ reportValue report }
+    ensures { result ≡ report_value report }
 {
     match report {
         Report::Over(o) => outcome::value(o),
@@ -38,7 +38,7 @@ pub fn value(report: Report) -> u32
 
 // The offset of the register whose word a waiting call awaits.
 pub fn awaited(report: Report) -> u32
-    ensures { result ≡ awaitedOf report }
+    ensures { result ≡ awaited_of report }
 {
     match report {
         Report::Over(_) => 0,
@@ -49,7 +49,7 @@ pub fn awaited(report: Report) -> u32
 }
 
 pub fn is_refusal(report: Report) -> bool
-    ensures { result ≡ isRefusal report }
+    ensures { result ≡ is_refusal report }
 {
     match report {
         Report::Over(_) => false,
@@ -60,7 +60,7 @@ pub fn is_refusal(report: Report) -> bool
 }
 
 pub fn is_full(report: Report) -> bool
-    ensures { result ≡ isFull report }
+    ensures { result ≡ is_full report }
 {
     match report {
         Report::Over(_) => false,

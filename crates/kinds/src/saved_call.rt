@@ -1,12 +1,12 @@
 // A saved call that nothing was done for.
 ghost use Rattle.std.specs.Prelude.{◌≡◌};
-ghost use Rattle.calls.specs.Run.{noCall};
-ghost use Rattle.calls.specs.Steps.{freshAt};
+ghost use Rattle.calls.specs.Run.{no_call};
+ghost use Rattle.calls.specs.Steps.{fresh_at};
 
 use calls::{Outcome, SavedCall, Step};
 
 pub fn fresh(n: u32, step: Step) -> SavedCall
-    ensures { result ≡ freshAt n step }
+    ensures { result ≡ fresh_at n step }
 {
     SavedCall {
         call: n,
@@ -22,7 +22,7 @@ pub fn fresh(n: u32, step: Step) -> SavedCall
 
 // What a refused begin hands out: it has number 0, which no advance takes.
 pub fn no_call() -> SavedCall
-    ensures { result ≡ noCall }
+    ensures { result ≡ no_call }
 {
     fresh(0, Step::Ended)
 }

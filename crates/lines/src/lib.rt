@@ -1,8 +1,8 @@
 // The lines that the bench prints, each put into a window on the whole text.
 ghost use Rattle.std.specs.Prelude.{◌≡◌};
-ghost use Rattle.numerals.specs.Numbers.{hexOf, decimalOf};
-ghost use Rattle.window.specs.Window.{laid, emitOf};
-ghost use Rattle.lines.specs.Lines.{space, newline, numberField, outcomeWord, reportWord, callStart, callLine, letterOf, accessLine, accessLines, logText, bytesText, fullBuffer, bufferLine, refusalLine};
+ghost use Rattle.numerals.specs.Numbers.{hex_of, decimal_of};
+ghost use Rattle.window.specs.Window.{laid, emit_of};
+ghost use Rattle.lines.specs.Lines.{space, newline, number_field, outcome_word, report_word, call_start, call_line, letter_of, access_line, access_lines, log_text, bytes_text, full_buffer, buffer_line, refusal_line};
 
 use calls::{Outcome, Report};
 use kinds::report;
@@ -16,7 +16,7 @@ pub enum Form {
 }
 
 fn put_outcome(p: Cursor, o: Outcome, out: &mut [u8]) -> Cursor
-    ensures { laid result out.new ≡ emitOf (outcomeWord o) (laid p out.old) }
+    ensures { laid result out.new ≡ emit_of (outcome_word o) (laid p out.old) }
 {
     match o {
         Outcome::Done(_) => window::put_all(p, b"done", out),
@@ -33,7 +33,7 @@ fn put_outcome(p: Cursor, o: Outcome, out: &mut [u8]) -> Cursor
 }
 
 fn put_report(p: Cursor, r: Report, out: &mut [u8]) -> Cursor
-    ensures { laid result out.new ≡ emitOf (reportWord r) (laid p out.old) }
+    ensures { laid result out.new ≡ emit_of (report_word r) (laid p out.old) }
 {
     match r {
         Report::Over(o) => put_outcome(p, o, out),
@@ -44,47 +44,47 @@ fn put_report(p: Cursor, r: Report, out: &mut [u8]) -> Cursor
 }
 
 fn put_decimal(p: Cursor, n: u64, out: &mut [u8]) -> Cursor
-    ensures { laid result out.new ≡ emitOf (decimalOf n) (laid p out.old) }
+    ensures { laid result out.new ≡ emit_of (decimal_of n) (laid p out.old) }
 {
     let digits = numerals::digits(n);
     window::put_all(p, numerals::significant(&digits), out)
 }
 
 fn put_byte(p: Cursor, b: u8, out: &mut [u8]) -> Cursor
-    ensures { laid result out.new ≡ emitOf (hexOf 2 b) (laid p out.old) }
+    ensures { laid result out.new ≡ emit_of (hex_of 2 b) (laid p out.old) }
 {
     let digits = numerals::hex_byte(b);
     window::put_all(p, &digits, out)
 }
 
 fn put_word(p: Cursor, n: u32, out: &mut [u8]) -> Cursor
-    ensures { laid result out.new ≡ emitOf (hexOf 8 n) (laid p out.old) }
+    ensures { laid result out.new ≡ emit_of (hex_of 8 n) (laid p out.old) }
 {
     let digits = numerals::hex(n);
     window::put_all(p, &digits, out)
 }
 
 fn put_space(p: Cursor, out: &mut [u8]) -> Cursor
-    ensures { laid result out.new ≡ emitOf space (laid p out.old) }
+    ensures { laid result out.new ≡ emit_of space (laid p out.old) }
 {
     window::put_all(p, b" ", out)
 }
 
 fn put_newline(p: Cursor, out: &mut [u8]) -> Cursor
-    ensures { laid result out.new ≡ emitOf newline (laid p out.old) }
+    ensures { laid result out.new ≡ emit_of newline (laid p out.old) }
 {
     window::put_all(p, b"\n", out)
 }
 
 fn put_number_field(p: Cursor, n: u64, out: &mut [u8]) -> Cursor
-    ensures { laid result out.new ≡ emitOf (numberField n) (laid p out.old) }
+    ensures { laid result out.new ≡ emit_of (number_field n) (laid p out.old) }
 {
     let p = put_space(p, out);
     put_decimal(p, n, out)
 }
 
 fn put_call_start(p: Cursor, n: u32, r: Report, out: &mut [u8]) -> Cursor
-    ensures { laid result out.new ≡ emitOf (callStart n r) (laid p out.old) }
+    ensures { laid result out.new ≡ emit_of (call_start n r) (laid p out.old) }
 {
     let p = put_decimal(p, n as u64, out);
     let p = put_space(p, out);
@@ -100,7 +100,7 @@ pub fn put_call(
     accesses: usize,
     out: &mut [u8],
 ) -> Cursor
-    ensures { laid result out.new ≡ emitOf (callLine n r used accesses) (laid p out.old) }
+    ensures { laid result out.new ≡ emit_of (call_line n r used accesses) (laid p out.old) }
 {
     let p = put_call_start(p, n, r, out);
     let p = put_number_field(p, report::value(r) as u64, out);
@@ -110,7 +110,7 @@ pub fn put_call(
 }
 
 fn put_letter(p: Cursor, offset: u32, out: &mut [u8]) -> Cursor
-    ensures { laid result out.new ≡ emitOf (letterOf offset) (laid p out.old) }
+    ensures { laid result out.new ≡ emit_of (letter_of offset) (laid p out.old) }
 {
     if offset < 0x100 {
         window::put_all(p, b"r ", out)
@@ -120,7 +120,7 @@ fn put_letter(p: Cursor, offset: u32, out: &mut [u8]) -> Cursor
 }
 
 fn put_access(p: Cursor, offset: u32, value: u32, out: &mut [u8]) -> Cursor
-    ensures { laid result out.new ≡ emitOf (accessLine offset value) (laid p out.old) }
+    ensures { laid result out.new ≡ emit_of (access_line offset value) (laid p out.old) }
 {
     let p = put_letter(p, offset, out);
     let p = put_byte(p, (offset % 0x100) as u8, out);
@@ -131,7 +131,7 @@ fn put_access(p: Cursor, offset: u32, value: u32, out: &mut [u8]) -> Cursor
 
 // The lines of the entries that stand in a log's words.
 fn put_accesses(p: Cursor, log: &[u32], out: &mut [u8]) -> Cursor
-    ensures { laid result out.new ≡ emitOf (accessLines log.now) (laid p out.old) }
+    ensures { laid result out.new ≡ emit_of (access_lines log.now) (laid p out.old) }
 {
     let mut q = p;
     let mut rest = log;
@@ -144,7 +144,7 @@ fn put_accesses(p: Cursor, log: &[u32], out: &mut [u8]) -> Cursor
 
 // The entries of a log's words in one of the two forms; on a page the first has the number `first`.
 pub fn put_log(p: Cursor, form: Form, first: u32, log: &[u32], out: &mut [u8]) -> Cursor
-    ensures { laid result out.new ≡ emitOf (logText form first log.now) (laid p out.old) }
+    ensures { laid result out.new ≡ emit_of (log_text form first log.now) (laid p out.old) }
 {
     match form {
         Form::Lines => put_accesses(p, log, out),
@@ -153,7 +153,7 @@ pub fn put_log(p: Cursor, form: Form, first: u32, log: &[u32], out: &mut [u8]) -
 }
 
 fn put_bytes(p: Cursor, bytes: &[u8], out: &mut [u8]) -> Cursor
-    ensures { laid result out.new ≡ emitOf (bytesText bytes.now) (laid p out.old) }
+    ensures { laid result out.new ≡ emit_of (bytes_text bytes.now) (laid p out.old) }
 {
     let mut q = p;
     let mut rest = bytes;
@@ -165,7 +165,7 @@ fn put_bytes(p: Cursor, bytes: &[u8], out: &mut [u8]) -> Cursor
 }
 
 fn put_full_buffer(p: Cursor, bytes: &[u8], out: &mut [u8]) -> Cursor
-    ensures { laid result out.new ≡ emitOf (fullBuffer bytes.now) (laid p out.old) }
+    ensures { laid result out.new ≡ emit_of (full_buffer bytes.now) (laid p out.old) }
 {
     let p = window::put_all(p, b"b ", out);
     let p = put_bytes(p, bytes, out);
@@ -174,7 +174,7 @@ fn put_full_buffer(p: Cursor, bytes: &[u8], out: &mut [u8]) -> Cursor
 
 // The line of a buffer.
 pub fn put_buffer(p: Cursor, bytes: &[u8], out: &mut [u8]) -> Cursor
-    ensures { laid result out.new ≡ emitOf (bufferLine bytes.now) (laid p out.old) }
+    ensures { laid result out.new ≡ emit_of (buffer_line bytes.now) (laid p out.old) }
 {
     if bytes.len() == 0 {
         window::put_all(p, b"b\n", out)
@@ -185,7 +185,7 @@ pub fn put_buffer(p: Cursor, bytes: &[u8], out: &mut [u8]) -> Cursor
 
 // What is printed of a file that is no bench file.
 pub fn put_refusal(p: Cursor, out: &mut [u8]) -> Cursor
-    ensures { laid result out.new ≡ emitOf refusalLine (laid p out.old) }
+    ensures { laid result out.new ≡ emit_of refusal_line (laid p out.old) }
 {
     window::put_all(p, b"file 14\n", out)
 }

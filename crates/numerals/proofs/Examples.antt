@@ -6,8 +6,8 @@ use Prim.Native.String as text
 use mathlib.Core.Path.{◌≡◌, refl}
 use mathlib.Core.List.{List, [], ◌∷◌, map}
 use lib.ListN.{replicate}
-use Rattle.numerals.specs.Numbers.{digitOf, number_of, isHex, parsedOf, hexDigitOf, spelledOf, hexOf, significantOf, decimalOf}
-use Rattle.numerals.specs.Words.{isBlank, first_word, afterWord}
+use Rattle.numerals.specs.Numbers.{digit_of, number_of, is_hex, parsed_of, hex_digit_of, spelled_of, hex_of, significant_of, decimal_of}
+use Rattle.numerals.specs.Words.{is_blank, first_word, after_word}
 use Rattle.numerals.specs.declared.Parsed.{Parsed}
 use Rattle.numerals.specs.declared.Parsed.TheVariants.{Number, NotNumber}
 
@@ -16,28 +16,28 @@ codes text.[] = []
 codes (text.◌∷◌ c s) = code c ∷ codes s
 
 abbrev parses : List String → List Parsed
-parses = map (λ (s : String). parsedOf (codes s))
+parses = map (λ (s : String). parsed_of (codes s))
 
 numbers : parses ("0" ∷ "0007" ∷ "4294967295" ∷ "0x1F" ∷ "0Xffffffff" ∷ []) ≡ Number 0 ∷ Number 7 ∷ Number 4294967295 ∷ Number 31 ∷ Number 4294967295 ∷ []
-unfolding parsedOf isHex number_of digitOf
+unfolding parsed_of is_hex number_of digit_of
 numbers = refl
 
-no-numbers : parses ("" ∷ "0x" ∷ "-1" ∷ " 1" ∷ "1F" ∷ "0x1G" ∷ "4294967296" ∷ "0x100000000" ∷ []) ≡ replicate 8 NotNumber
-unfolding parsedOf isHex number_of digitOf
-no-numbers = refl
+no_numbers : parses ("" ∷ "0x" ∷ "-1" ∷ " 1" ∷ "1F" ∷ "0x1G" ∷ "4294967296" ∷ "0x100000000" ∷ []) ≡ replicate 8 NotNumber
+unfolding parsed_of is_hex number_of digit_of
+no_numbers = refl
 
-spelled : hexOf 8 0x60FB1C39 ≡ codes "60FB1C39"
-unfolding spelledOf hexDigitOf
+spelled : hex_of 8 0x60FB1C39 ≡ codes "60FB1C39"
+unfolding spelled_of hex_digit_of
 spelled = refl
 
-decimal : map decimalOf (0 ∷ 7 ∷ 10 ∷ 4294967295 ∷ 18446744073709551615 ∷ []) ≡ map codes ("0" ∷ "7" ∷ "10" ∷ "4294967295" ∷ "18446744073709551615" ∷ [])
-unfolding spelledOf hexDigitOf significantOf
+decimal : map decimal_of (0 ∷ 7 ∷ 10 ∷ 4294967295 ∷ 18446744073709551615 ∷ []) ≡ map codes ("0" ∷ "7" ∷ "10" ∷ "4294967295" ∷ "18446744073709551615" ∷ [])
+unfolding spelled_of hex_digit_of significant_of
 decimal = refl
 
 word : first_word (codes " 8000000\t400000") ≡ codes "8000000"
-unfolding isBlank
+unfolding is_blank
 word = refl
 
-after : afterWord (codes " 8000000\t400000") ≡ codes "\t400000"
-unfolding isBlank
+after : after_word (codes " 8000000\t400000") ≡ codes "\t400000"
+unfolding is_blank
 after = refl

@@ -1,7 +1,7 @@
 // Numbers as text in ASCII: a number read and written, and a text cut into words.
 ghost use Rattle.std.specs.Prelude.{◌≡◌, ◌≤◌, ◌<◌, length};
-ghost use Rattle.numerals.specs.Numbers.{digitOf, number_of, isHex, parsedOf, hexDigitOf, spelledOf, hexOf, significantOf, decimalOf};
-ghost use Rattle.numerals.specs.Words.{isBlank, blankIs, dropWhile, first_word, afterWord};
+ghost use Rattle.numerals.specs.Numbers.{digit_of, number_of, is_hex, parsed_of, hex_digit_of, spelled_of, hex_of, significant_of, decimal_of};
+ghost use Rattle.numerals.specs.Words.{is_blank, blank_is, drop_while, first_word, after_word};
 
 #[derive(Drop)]
 pub enum Parsed {
@@ -11,7 +11,7 @@ pub enum Parsed {
 
 // The number that all of `s` writes: decimal digits, or `0x` or `0X` and hexadecimal digits.
 pub fn parse(s: &[u8]) -> Parsed
-    ensures { result ≡ parsedOf s.now }
+    ensures { result ≡ parsed_of s.now }
 {
     if is_hex(s) {
         number(&s[2..], 16)
@@ -21,7 +21,7 @@ pub fn parse(s: &[u8]) -> Parsed
 }
 
 fn is_hex(s: &[u8]) -> bool
-    ensures { result ≡ isHex s.now }
+    ensures { result ≡ is_hex s.now }
 {
     if s.len() < 2 {
         return false;
@@ -52,7 +52,7 @@ fn number(s: &[u8], base: u64) -> Parsed
 }
 
 fn digit(b: u8) -> u64
-    ensures { result ≡ digitOf b }
+    ensures { result ≡ digit_of b }
 {
     match b {
         b'0'..=b'9' => (b - b'0') as u64,
@@ -64,7 +64,7 @@ fn digit(b: u8) -> u64
 
 // `n` in eight hexadecimal digits, the letters capital.
 pub fn hex(n: u32) -> [u8; 8]
-    ensures { result ≡ hexOf 8 n }
+    ensures { result ≡ hex_of 8 n }
 {
     let mut text = [0u8; 8];
     spell(n, 16, &mut text);
@@ -73,7 +73,7 @@ pub fn hex(n: u32) -> [u8; 8]
 
 // A byte in two hexadecimal digits.
 pub fn hex_byte(b: u8) -> [u8; 2]
-    ensures { result ≡ hexOf 2 b }
+    ensures { result ≡ hex_of 2 b }
 {
     let mut text = [0u8; 2];
     spell(b as u32, 16, &mut text);
@@ -82,7 +82,7 @@ pub fn hex_byte(b: u8) -> [u8; 2]
 
 // The last six decimal digits of `n`, zeros in front.
 pub fn last_six(n: u32) -> [u8; 6]
-    ensures { result ≡ spelledOf 10 6 n }
+    ensures { result ≡ spelled_of 10 6 n }
 {
     let mut text = [0u8; 6];
     spell(n, 10, &mut text);
@@ -91,7 +91,7 @@ pub fn last_six(n: u32) -> [u8; 6]
 
 // `n` in ten decimal digits, which 32 bits fit into; `significant` leaves the zeros in front out.
 pub fn ten_digits(n: u32) -> [u8; 10]
-    ensures { significantOf result ≡ decimalOf n }
+    ensures { significant_of result ≡ decimal_of n }
 {
     let mut digits = [0u8; 10];
     spell(n, 10, &mut digits);
@@ -100,7 +100,7 @@ pub fn ten_digits(n: u32) -> [u8; 10]
 
 // `n` in twenty decimal digits, which 64 bits fit into.
 pub fn digits(n: u64) -> [u8; 20]
-    ensures { result ≡ spelledOf 10 20 n }
+    ensures { result ≡ spelled_of 10 20 n }
 {
     let mut text = [0u8; 20];
     spell_wide(n, &mut text);
@@ -111,7 +111,7 @@ pub fn digits(n: u64) -> [u8; 20]
 // library on the chip.
 fn spell(n: u32, base: u32, text: &mut [u8])
     requires { (1 ≤ base) × (base ≤ 16) }
-    ensures { text.new ≡ spelledOf base (length text.old) n }
+    ensures { text.new ≡ spelled_of base (length text.old) n }
 {
     let mut rest = n;
     let mut i = text.len();
@@ -124,7 +124,7 @@ fn spell(n: u32, base: u32, text: &mut [u8])
 
 // Fills `text` with the last decimal digits of `n`.
 fn spell_wide(n: u64, text: &mut [u8])
-    ensures { text.new ≡ spelledOf 10 (length text.old) n }
+    ensures { text.new ≡ spelled_of 10 (length text.old) n }
 {
     let mut rest = n;
     let mut i = text.len();
@@ -137,7 +137,7 @@ fn spell_wide(n: u64, text: &mut [u8])
 
 fn hex_digit(d: u32) -> u8
     requires { d < 16 }
-    ensures { result ≡ hexDigitOf d }
+    ensures { result ≡ hex_digit_of d }
 {
     if d < 10 {
         b'0' + d as u8
@@ -148,7 +148,7 @@ fn hex_digit(d: u32) -> u8
 
 // Digits without the zeros in front; the last digit stays.
 pub fn significant(s: &[u8]) -> &[u8]
-    ensures { result.now ≡ significantOf s.now }
+    ensures { result.now ≡ significant_of s.now }
 {
     let mut rest = s;
     while rest.len() > 1 {
@@ -171,14 +171,14 @@ pub fn word(s: &[u8]) -> &[u8]
 
 // What follows the first word.
 pub fn after_word(s: &[u8]) -> &[u8]
-    ensures { result.now ≡ afterWord s.now }
+    ensures { result.now ≡ after_word s.now }
 {
     skip(skip(s, true), false)
 }
 
 // What is left of `s` past the blanks at its start, or past the bytes there that are none.
 fn skip(s: &[u8], blank: bool) -> &[u8]
-    ensures { result.now ≡ dropWhile (blankIs blank) s.now }
+    ensures { result.now ≡ drop_while (blank_is blank) s.now }
 {
     let mut rest = s;
     while rest.len() > 0 {
@@ -191,7 +191,7 @@ fn skip(s: &[u8], blank: bool) -> &[u8]
 }
 
 fn is_blank(b: u8) -> bool
-    ensures { result ≡ isBlank b }
+    ensures { result ≡ is_blank b }
 {
     b == b' ' || b'\t' <= b && b <= b'\r'
 }

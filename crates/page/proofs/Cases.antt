@@ -4,11 +4,11 @@ use Prim.Native.String.{String}
 use mathlib.Core.Path.{◌≡◌, refl}
 use mathlib.Core.List.{List, [], ◌∷◌, map}
 use lib.ListN.{length, replicate}
-use Rattle.fields.specs.Field.{bits_at, getOf}
-use Rattle.numerals.specs.Numbers.{hexDigitOf, spelledOf, significantOf}
+use Rattle.fields.specs.Field.{bits_at, get_of}
+use Rattle.numerals.specs.Numbers.{hex_digit_of, spelled_of, significant_of}
 use Rattle.window.specs.Codes.{codes}
-use Rattle.page.specs.Page.{accessOf, filled, head_of, lines_from, entryLines, lines_of, text_of, page_of, faultFrom}
-use Rattle.page.specs.Tokens.{flagTokens, numberTokens, bitTokens, tokensBelow}
+use Rattle.page.specs.Page.{access_of, filled, head_of, lines_from, entry_lines, lines_of, text_of, page_of, fault_from}
+use Rattle.page.specs.Tokens.{flag_tokens, number_tokens, bit_tokens, tokens_below}
 use Rattle.page.specs.declared.Access.TheVariants.{Unknown}
 use Rattle.page.specs.declared.Fault.TheVariants.{NotWhole, UnknownCode}
 
@@ -43,12 +43,12 @@ pages : (lines_of 1 words ≡ lines shown)
     × (length (page_of words) ≡ 891)
     × (length (page_of run) ≡ 729)
     × (lines_of 1000000 (0x11C ∷ 0 ∷ []) ≡ lines ("000000 write ICR     00000000" ∷ []))
-unfolding lines_of entryLines accessOf head_of lines_from text_of tokensBelow bitTokens flagTokens numberTokens getOf bits_at spelledOf hexDigitOf significantOf
+unfolding lines_of entry_lines access_of head_of lines_from text_of tokens_below bit_tokens flag_tokens number_tokens get_of bits_at spelled_of hex_digit_of significant_of
 pages = (refl, refl, refl, refl)
 
 -- no register's offset, a write's twice over, a higher bit set; a log that ends within an entry; the first fault counts
-no-entries : (map accessOf (0x14 ∷ 0x20 ∷ 0x218 ∷ 0x80000018 ∷ []) ≡ replicate 4 Unknown)
-    × (map (faultFrom 1) ((4 ∷ []) ∷ (4 ∷ 0 ∷ 0x18 ∷ []) ∷ []) ≡ replicate 2 NotWhole)
-    × (faultFrom 1 (4 ∷ 0 ∷ 0x14 ∷ 0 ∷ 0x18 ∷ []) ≡ UnknownCode 2)
-unfolding faultFrom accessOf
-no-entries = (refl, refl, refl)
+no_entries : (map access_of (0x14 ∷ 0x20 ∷ 0x218 ∷ 0x80000018 ∷ []) ≡ replicate 4 Unknown)
+    × (map (fault_from 1) ((4 ∷ []) ∷ (4 ∷ 0 ∷ 0x18 ∷ []) ∷ []) ≡ replicate 2 NotWhole)
+    × (fault_from 1 (4 ∷ 0 ∷ 0x14 ∷ 0 ∷ 0x18 ∷ []) ≡ UnknownCode 2)
+unfolding fault_from access_of
+no_entries = (refl, refl, refl)

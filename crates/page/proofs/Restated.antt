@@ -16,29 +16,29 @@ use borrow.Fn.World
 use contract.Lifetimes.{Lfts}
 use denote.Triple.Clauses.{Ended, AtExit}
 use denote.Triple.Entry.{Args, Res}
-use Rattle.fields.specs.Field.{bits_at, getOf}
-use Rattle.numerals.specs.Numbers.{digitOf, hexDigitOf, spelledOf}
-use Rattle.numerals.specs.Words.{isBlank}
+use Rattle.fields.specs.Field.{bits_at, get_of}
+use Rattle.numerals.specs.Numbers.{digit_of, hex_digit_of, spelled_of}
+use Rattle.numerals.specs.Words.{is_blank}
 use Rattle.registers.specs.Fields.{registers}
 use Rattle.registers.specs.Map.{offset_of}
 use Rattle.registers.specs.declared.Register.{Register}
 use Rattle.registers.specs.declared.Register.TheVariants.{Cr1, Cr2, Oar1, Oar2, Timingr, Isr, Icr, Rxdr, Txdr}
-use Rattle.window.proofs.Laid.{then, emit-none, windowed}
+use Rattle.window.proofs.Laid.{then, emit_none, windowed}
 use Rattle.window.specs.Codes.{codes}
-use Rattle.window.specs.Window.{Shown, laid, start_of, emitOf, windowOf}
+use Rattle.window.specs.Window.{Shown, laid, start_of, emit_of, window_of}
 use Rattle.window.specs.declared.Cursor.{Cursor}
 use Rattle.words.proofs.Turns.{in_words}
 use Rattle.words.specs.Words.{words_in, Below}
-use Rattle.page.specs.Back.{fieldColumns, worth, valueIn}
-use Rattle.page.specs.Page.{accessIn, accessOf, filled, head_of, lines_from, entryLines, lines_of, text_of, entriesText, page_of, isKnown, faultFrom, faultOf, Left, left, pageIn, pageRefusal, pageLength}
+use Rattle.page.specs.Back.{field_columns, worth, value_in}
+use Rattle.page.specs.Page.{access_in, access_of, filled, head_of, lines_from, entry_lines, lines_of, text_of, entries_text, page_of, is_known, fault_from, fault_of, Left, left, page_in, page_refusal, page_length}
 use Rattle.page.specs.Promises.{Printable, Lines, EachKnown}
-use Rattle.page.specs.Tokens.{flagTokens, bitTokens, tokensBelow}
+use Rattle.page.specs.Tokens.{flag_tokens, bit_tokens, tokens_below}
 use Rattle.page.specs.declared.Access.{Access}
 use Rattle.page.specs.declared.Access.TheVariants.{Read, Write, Unknown}
 use Rattle.page.specs.declared.Fault.TheVariants.{Nothing, NotWhole, UnknownCode}
 use Rattle.page.specs.declared.Page.TheVariants.{Laid, Refused}
-use Rattle.page.proofs.Promised.{page-promises}
-use Rattle.page.proofs.Same.{text-append, entries}
+use Rattle.page.proofs.Promised.{page_promises}
+use Rattle.page.proofs.Same.{text_append, entries}
 use Rattle.page.specs.contracts.fault_in as fault-in
 use Rattle.page.proofs.fault_in.Reads as fault-in-reads
 use Rattle.page.specs.contracts.lay_out as lay-out
@@ -52,20 +52,20 @@ use Rattle.page.proofs.Page.length.Reads as page-length-reads
 
 -- ---- No function asks anything of its caller.
 
-fault-in-asks-nothing : (κs : Lfts 1) (a : borrow.Fn.World.ArgsD fault-in.signature κs) → fault-in-reads.Asked κs a
-fault-in-asks-nothing κs a = tt
+fault_in_asks_nothing : (κs : Lfts 1) (a : borrow.Fn.World.ArgsD fault-in.signature κs) → fault-in-reads.Asked κs a
+fault_in_asks_nothing κs a = tt
 
-lay-out-asks-nothing : (κs : Lfts 2) (a : borrow.Fn.World.ArgsD lay-out.signature κs) → lay-out-reads.Asked κs a
-lay-out-asks-nothing κs a = tt
+lay_out_asks_nothing : (κs : Lfts 2) (a : borrow.Fn.World.ArgsD lay-out.signature κs) → lay-out-reads.Asked κs a
+lay_out_asks_nothing κs a = tt
 
-put-entries-asks-nothing : (κs : Lfts 2) (a : borrow.Fn.World.ArgsD put_entries.signature κs) → put-entries-reads.Asked κs a
-put-entries-asks-nothing κs a = tt
+put_entries_asks_nothing : (κs : Lfts 2) (a : borrow.Fn.World.ArgsD put_entries.signature κs) → put-entries-reads.Asked κs a
+put_entries_asks_nothing κs a = tt
 
-refusal-asks-nothing : (κs : Lfts 0) (a : borrow.Fn.World.ArgsD refusal.signature κs) → refusal-reads.Asked κs a
-refusal-asks-nothing κs a = tt
+refusal_asks_nothing : (κs : Lfts 0) (a : borrow.Fn.World.ArgsD refusal.signature κs) → refusal-reads.Asked κs a
+refusal_asks_nothing κs a = tt
 
-length-asks-nothing : (κs : Lfts 0) (a : borrow.Fn.World.ArgsD page-length.signature κs) → page-length-reads.Asked κs a
-length-asks-nothing κs a = tt
+length_asks_nothing : (κs : Lfts 0) (a : borrow.Fn.World.ArgsD page-length.signature κs) → page-length-reads.Asked κs a
+length_asks_nothing κs a = tt
 
 -- ---- A call that came back: its arguments, its result, the parameters at its end, and that the contract holds of them (`driver`'s, on which
 -- this crate does not rest).
@@ -107,20 +107,20 @@ abbrev codes_of : List Register → List ℕ
 codes_of [] = []
 codes_of (r ∷ rs) = offset_of r ∷ (offset_of r + 0x100) ∷ codes_of rs
 
-among : (c : ℕ) (rs : List Register) → isKnown (accessIn c rs) ≡ one_of c (codes_of rs)
+among : (c : ℕ) (rs : List Register) → is_known (access_in c rs) ≡ one_of c (codes_of rs)
 unfolding one_of
 among c [] = refl
 among c (r ∷ rs) = by (eqb c (offset_of r)) (eqb c (offset_of r + 0x100)) (among c rs)
   where
-    by : (p q : Bool) → isKnown (accessIn c rs) ≡ one_of c (codes_of rs) →
-        isKnown (cond p (Read r) (cond q (Write r) (accessIn c rs))) ≡ (p || (q || one_of c (codes_of rs)))
+    by : (p q : Bool) → is_known (access_in c rs) ≡ one_of c (codes_of rs) →
+        is_known (cond p (Read r) (cond q (Write r) (access_in c rs))) ≡ (p || (q || one_of c (codes_of rs)))
     by true q e = refl
     by false true e = refl
     by false false e = e
 
-is-code : (c : ℕ) → isKnown (accessOf c) ≡ is_code c
-unfolding accessOf is_code one_of
-is-code c = among c registers
+is_code_holds : (c : ℕ) → is_known (access_of c) ≡ is_code c
+unfolding access_of is_code one_of
+is_code_holds c = among c registers
 
 -- an even number of words, and every other one, from the first on, is a code
 record Known (log : List ℕ) : Type 0 where
@@ -136,15 +136,15 @@ known (code ∷ value ∷ log) k =
   where
     go : ((i : ℕ) → 2 * i < length log → is_code (get_or log (2 * i) 0) ≡ true) →
         (i : ℕ) → 2 * i < length (code ∷ value ∷ log) → is_code (get_or (code ∷ value ∷ log) (2 * i) 0) ≡ true
-    go f zero h = sym (is-code code) ∙ k.0
+    go f zero h = sym (is_code_holds code) ∙ k.0
     go f (suc i) h = (let e : 2 * suc i ≡ suc (suc (2 * i)) = omega arith in rw e (f i (omega arith)))
 
-each-known : (log : List ℕ) → Known log → EachKnown log
-each-known [] K = tt
-each-known (w ∷ []) K = absurd (omega (arith, K.even))
-each-known (code ∷ value ∷ log) K = (
-  is-code code ∙ K.coded 0 (omega arith),
-  each-known log (record {
+each_known : (log : List ℕ) → Known log → EachKnown log
+each_known [] K = tt
+each_known (w ∷ []) K = absurd (omega (arith, K.even))
+each_known (code ∷ value ∷ log) K = (
+  is_code_holds code ∙ K.coded 0 (omega arith),
+  each_known log (record {
     even = omega (arith, K.even);
     coded = λ i h. let e : 2 * suc i ≡ suc (suc (2 * i)) = omega arith in rw e at (K.coded (suc i) (omega arith));
   }),
@@ -153,55 +153,55 @@ each-known (code ∷ value ∷ log) K = (
 -- ---- What is wrong with a log: it ends within an entry, or an entry has none of these codes, and then the first such entry counts.
 
 faults : (n k : ℕ) (ws : List ℕ) → 2 * k + 1 < length ws → ((i : ℕ) → i < k → is_code (get_or ws (2 * i) 0) ≡ true) → is_code (get_or ws (2 * k) 0) ≡ false →
-    faultFrom n ws ≡ UnknownCode (n + k)
-unfolding faultFrom
+    fault_from n ws ≡ UnknownCode (n + k)
+unfolding fault_from
 faults n k [] h f u = absurd (omega arith)
 faults n k (w ∷ []) h f u = absurd (omega arith)
-faults n zero (code ∷ value ∷ ws) h f u = rw (is-code code, u, add-zero)
+faults n zero (code ∷ value ∷ ws) h f u = rw (is_code_holds code, u, add-zero)
 faults n (suc k) (code ∷ value ∷ ws) h f u =
     let e : 2 * suc k ≡ suc (suc (2 * k)) = omega arith in
     let m : n + 1 + k ≡ n + suc k = omega arith in
     let g : (i : ℕ) → i < k → is_code (get_or ws (2 * i) 0) ≡ true =
     λ i l. (let d : 2 * suc i ≡ suc (suc (2 * i)) = omega arith in rw d at (f (suc i) (omega arith))) in
-    rw (is-code code, f 0 (omega arith)) (rw m at (faults (n + 1) k ws (omega arith) g (rw e at u)))
+    rw (is_code_holds code, f 0 (omega arith)) (rw m at (faults (n + 1) k ws (omega arith) g (rw e at u)))
 
 module _ (C : FaultCall) where
   abbrev bytes : List ℕ
   bytes = C.given.0.now
 
-  not-whole : length bytes % 8 ≢ 0 → C.gave ≡ NotWhole
-  unfolding faultOf
-  not-whole h = C.contract ∙ rw (ne_eqb (length bytes % 8) 0 h)
+  not_whole : length bytes % 8 ≢ 0 → C.gave ≡ NotWhole
+  unfolding fault_of
+  not_whole h = C.contract ∙ rw (ne_eqb (length bytes % 8) 0 h)
 
   twelve : length bytes ≡ 12 → C.gave ≡ NotWhole
-  twelve h = not-whole (λ e. omega arith)
+  twelve h = not_whole (λ e. omega arith)
 
   -- entry k + 1 is the first with another code
   no_code : (k : ℕ) → length bytes % 8 ≡ 0 → k < length bytes / 8 → ((i : ℕ) → i < k → is_code (get_or (words_in bytes) (2 * i) 0) ≡ true) →
       is_code (get_or (words_in bytes) (2 * k) 0) ≡ false → C.gave ≡ UnknownCode (1 + k)
-  unfolding faultOf
+  unfolding fault_of
   no_code k h l f u = C.contract ∙ rw (eq-eqb (length bytes % 8) 0 h) (faults 1 k (words_in bytes) (omega (arith, in_words bytes)) f u)
 
   sound : length bytes % 8 ≡ 0 → Known (words_in bytes) → C.gave ≡ Nothing
-  unfolding faultOf
-  sound h K = C.contract ∙ rw (eq-eqb (length bytes % 8) 0 h) (page-promises.only_so 1 (words_in bytes) (each-known (words_in bytes) K))
+  unfolding fault_of
+  sound h K = C.contract ∙ rw (eq-eqb (length bytes % 8) 0 h) (page_promises.only_so 1 (words_in bytes) (each_known (words_in bytes) K))
 
   only_so : C.gave ≡ Nothing → (length bytes % 8 ≡ 0) × Known (words_in bytes)
-  unfolding faultOf
+  unfolding fault_of
   only_so e = by (eqb (length bytes % 8) 0) (eqb-true (length bytes % 8) 0) (sym C.contract ∙ e)
     where
-      by : (b : Bool) → (b ≡ true → length bytes % 8 ≡ 0) → cond b (faultFrom 1 (words_in bytes)) NotWhole ≡ Nothing → (length bytes % 8 ≡ 0) × Known (words_in bytes)
-      by true h f = (h refl, known (words_in bytes) (page-promises.sound 1 (words_in bytes) f))
+      by : (b : Bool) → (b ≡ true → length bytes % 8 ≡ 0) → cond b (fault_from 1 (words_in bytes)) NotWhole ≡ Nothing → (length bytes % 8 ≡ 0) × Known (words_in bytes)
+      by true h f = (h refl, known (words_in bytes) (page_promises.sound 1 (words_in bytes) f))
       by false h f = let z : ◌≡◌ {A = ℕ} 0 1 = cc in absurd (omega arith)
 
 -- ---- The characters of a text: each line is 80 printable ones and a line feed (10). An entry takes 405 at most.
 
-few_bytes : (n : ℕ) (log : List ℕ) → length (entriesText n log) ≤ 405 * (length log / 2)
+few_bytes : (n : ℕ) (log : List ℕ) → length (entries_text n log) ≤ 405 * (length log / 2)
 unfolding lines_of text_of
 few_bytes n [] = omega arith
 few_bytes n (w ∷ []) = omega arith
 few_bytes n (code ∷ value ∷ log) =
-    omega (arith, simp length-append at (ap length (entries n code value log)), page-promises.few-lines n code value, few_bytes (n + 1) log)
+    omega (arith, simp length-append at (ap length (entries n code value log)), page_promises.few_lines n code value, few_bytes (n + 1) log)
 
 lines_long : (ls : List (List ℕ)) → Lines ls → length (text_of ls) ≡ 81 * length ls
 unfolding text_of
@@ -217,43 +217,43 @@ printable (c ∷ s) (suc i) p h = printable s i p.2 (omega arith)
 InLine : ℕ → ℕ → Type 0
 InLine i c = (i < 80 → (32 ≤ c) × (c < 127)) × (i ≡ 80 → c ≡ 10)
 
-in-line : (k i : ℕ) (ls : List (List ℕ)) → Lines ls → k < length ls → i < 81 → InLine i (get_or (text_of ls) (81 * k + i) 0)
+in_line : (k i : ℕ) (ls : List (List ℕ)) → Lines ls → k < length ls → i < 81 → InLine i (get_or (text_of ls) (81 * k + i) 0)
 unfolding text_of InLine
-in-line k i [] h l m = absurd (omega arith)
-in-line zero i (s ∷ ls) h l m =
+in_line k i [] h l m = absurd (omega arith)
+in_line zero i (s ∷ ls) h l m =
     let e : 81 * 0 + i ≡ i = omega arith in
     rw (e, get_or-append (s ++ codes "\n") (text_of ls) 0 i (simp length-append (omega (arith, h.0)))) (
       (λ q. rw (get_or-append s (codes "\n") 0 i (omega (arith, h.0))) (printable s i h.1 (omega (arith, h.0)))),
       (λ q. let d : i ≡ length s + 0 = omega (arith, h.0) in rw (d, get_or-append-add)),
     )
-in-line (suc k) i (s ∷ ls) h l m =
+in_line (suc k) i (s ∷ ls) h l m =
     let e : 81 * suc k + i ≡ length (s ++ codes "\n") + (81 * k + i) = simp length-append (omega (arith, h.0)) in
-    rw (e, get_or-append-add) (in-line k i ls h.2 (omega arith) m)
+    rw (e, get_or-append-add) (in_line k i ls h.2 (omega arith) m)
 
 module _ (n : ℕ) (log : List ℕ) where
   abbrev text : List ℕ
-  text = entriesText n log
+  text = entries_text n log
 
   long : length text ≡ 81 * length (lines_of n log)
-  long = lines_long (lines_of n log) (page-promises.columns n log)
+  long = lines_long (lines_of n log) (page_promises.columns n log)
 
-  whole-lines : length text % 81 ≡ 0
-  whole-lines = omega (arith, long)
+  whole_lines : length text % 81 ≡ 0
+  whole_lines = omega (arith, long)
 
   characters : (j : ℕ) → j < length text → InLine (j % 81) (get_or text j 0)
   characters j h =
       let e : 81 * (j / 81) + j % 81 ≡ j = omega arith in
-      rw e at (in-line (j / 81) (j % 81) (lines_of n log) (page-promises.columns n log) (omega (arith, long)) (omega arith))
+      rw e at (in_line (j / 81) (j % 81) (lines_of n log) (page_promises.columns n log) (omega (arith, long)) (omega arith))
 
 -- ---- Two small pages: of no entry, and of a write of 0 to ICR.
 
-no-page : (out : List ℕ) → pageIn [] out ≡ left (Laid 0) out
-unfolding pageIn faultOf faultFrom words_in lines_of text_of
-no-page out = rw (le-leb 0 (length out) (omega arith))
+no_page : (out : List ℕ) → page_in [] out ≡ left (Laid 0) out
+unfolding page_in fault_of fault_from words_in lines_of text_of
+no_page out = rw (le-leb 0 (length out) (omega arith))
 
-icr-page : (out : List ℕ) (n : ℕ) → length out ≡ n → (pageIn (0x1C ∷ 0x01 ∷ 0 ∷ 0 ∷ 0 ∷ 0 ∷ 0 ∷ 0 ∷ []) out).page ≡ cond (leb 81 n) (Laid 81) Refused
-unfolding pageIn faultOf faultFrom words_in accessOf lines_of entryLines head_of lines_from text_of tokensBelow bitTokens flagTokens getOf bits_at spelledOf hexDigitOf
-icr-page out n e = rw e (by (leb 81 n) _)
+icr_page : (out : List ℕ) (n : ℕ) → length out ≡ n → (page_in (0x1C ∷ 0x01 ∷ 0 ∷ 0 ∷ 0 ∷ 0 ∷ 0 ∷ 0 ∷ []) out).page ≡ cond (leb 81 n) (Laid 81) Refused
+unfolding page_in fault_of fault_from words_in access_of lines_of entry_lines head_of lines_from text_of tokens_below bit_tokens flag_tokens get_of bits_at spelled_of hex_digit_of
+icr_page out n e = rw e (by (leb 81 n) _)
   where
     by : (b : Bool) (l : List ℕ) → (cond b (left (Laid 81) l) (left Refused out)).page ≡ cond b (Laid 81) Refused
     by true l = refl
@@ -275,48 +275,48 @@ module _ (C : LayCall) where
   abbrev page : List ℕ
   page = page_of (words_in log)
 
-  gave-page : C.gave ≡ (pageIn log out).page
-  gave-page = ap (λ (L : Left). L.page) C.contract
+  gave_page : C.gave ≡ (page_in log out).page
+  gave_page = ap (λ (L : Left). L.page) C.contract
 
-  left-buffer : out' ≡ (pageIn log out).buffer
-  left-buffer = ap (λ (L : Left). L.buffer) C.contract
+  left_buffer : out' ≡ (page_in log out).buffer
+  left_buffer = ap (λ (L : Left). L.buffer) C.contract
 
   accepted : length log % 8 ≡ 0 → Known (words_in log) → length page ≤ length out →
       (C.gave ≡ Laid (length page)) × (out' ≡ page ++ drop (length page) out)
   accepted h K l =
-      let e = page-promises.accepted log out h (each-known (words_in log) K) l in
-      (gave-page ∙ ap (λ (L : Left). L.page) e, left-buffer ∙ ap (λ (L : Left). L.buffer) e)
+      let e = page_promises.accepted log out h (each_known (words_in log) K) l in
+      (gave_page ∙ ap (λ (L : Left). L.page) e, left_buffer ∙ ap (λ (L : Left). L.buffer) e)
 
   only_then : (n : ℕ) → C.gave ≡ Laid n → (length log % 8 ≡ 0) × Known (words_in log) × (length page ≤ length out)
   only_then n e =
-      let z = page-promises.only_then log out n (sym gave-page ∙ e) in
+      let z = page_promises.only_then log out n (sym gave_page ∙ e) in
       (z.0, known (words_in log) z.1, z.2)
 
-  laid_out : (n : ℕ) → C.gave ≡ Laid n → (n ≡ length page) × (n ≤ length out) × (out' ≡ page ++ drop n out)
-  laid_out n e =
+  laid_out_holds : (n : ℕ) → C.gave ≡ Laid n → (n ≡ length page) × (n ≤ length out) × (out' ≡ page ++ drop n out)
+  laid_out_holds n e =
       let z = only_then n e in
       let a = accepted z.0 z.1 z.2 in
       let f : C.gave ≡ Laid (length page) = a.0 in
       let m : n ≡ length page = cc in
       (m, rw m z.2, rw m a.1)
 
-  its-bytes : (n : ℕ) → C.gave ≡ Laid n → take n out' ≡ page
-  its-bytes n e =
-      let l = laid_out n e in
+  its_bytes : (n : ℕ) → C.gave ≡ Laid n → take n out' ≡ page
+  its_bytes n e =
+      let l = laid_out_holds n e in
       ap (take n) l.2 ∙ rw l.0 (take-append_seam page (drop (length page) out))
 
   bytes_after : (n : ℕ) → C.gave ≡ Laid n → (length out' ≡ length out) × (drop n out' ≡ drop n out)
   bytes_after n e =
-      let l = laid_out n e in (
+      let l = laid_out_holds n e in (
         ap length l.2 ∙ simp (length-append, length-drop) (omega (arith, l.0, l.1)),
         ap (drop n) l.2 ∙ rw l.0 (drop-append_seam page (drop (length page) out)),
       )
 
-  bytes-as-lent : C.gave ≡ Refused → out' ≡ out
-  bytes-as-lent e = left-buffer ∙ page-promises.unchanged log out (sym gave-page ∙ e)
+  bytes_as_lent : C.gave ≡ Refused → out' ≡ out
+  bytes_as_lent e = left_buffer ∙ page_promises.unchanged log out (sym gave_page ∙ e)
 
-  why-refused : C.gave ≡ Refused → length log % 8 ≡ 0 → Known (words_in log) → length out < length page
-  why-refused e h K = by (leb (length page) (length out)) refl
+  why_refused : C.gave ≡ Refused → length log % 8 ≡ 0 → Known (words_in log) → length out < length page
+  why_refused e h K = by (leb (length page) (length out)) refl
     where
       by : (b : Bool) → leb (length page) (length out) ≡ b → length out < length page
       by true t =
@@ -326,67 +326,67 @@ module _ (C : LayCall) where
       by false t = leb-false (length page) (length out) t
 
   -- 405 bytes for each entry are room enough
-  room-enough : length log % 8 ≡ 0 → Known (words_in log) → 405 * (length log / 8) ≤ length out → C.gave ≡ Laid (length page)
-  room-enough h K l = (accepted h K (omega (arith, few_bytes 1 (words_in log), in_words log))).0
+  room_enough : length log % 8 ≡ 0 → Known (words_in log) → 405 * (length log / 8) ≤ length out → C.gave ≡ Laid (length page)
+  room_enough h K l = (accepted h K (omega (arith, few_bytes 1 (words_in log), in_words log))).0
 
   -- an empty log has an empty page, which an empty buffer holds
-  empty-log : log ≡ [] → (C.gave ≡ Laid 0) × (out' ≡ out)
-  empty-log e =
-      let f : pageIn log out ≡ left (Laid 0) out = ap (λ (l : List ℕ). pageIn l out) e ∙ no-page out in
-      (gave-page ∙ ap (λ (L : Left). L.page) f, left-buffer ∙ ap (λ (L : Left). L.buffer) f)
+  empty_log : log ≡ [] → (C.gave ≡ Laid 0) × (out' ≡ out)
+  empty_log e =
+      let f : page_in log out ≡ left (Laid 0) out = ap (λ (l : List ℕ). page_in l out) e ∙ no_page out in
+      (gave_page ∙ ap (λ (L : Left). L.page) f, left_buffer ∙ ap (λ (L : Left). L.buffer) f)
 
   -- a write of 0 to ICR takes one line: 81 bytes are enough, 80 are not
   one_line : log ≡ 0x1C ∷ 0x01 ∷ 0 ∷ 0 ∷ 0 ∷ 0 ∷ 0 ∷ 0 ∷ [] → (length out ≡ 81 → C.gave ≡ Laid 81) × (length out ≡ 80 → C.gave ≡ Refused)
   one_line e =
-      let f : C.gave ≡ (pageIn (0x1C ∷ 0x01 ∷ 0 ∷ 0 ∷ 0 ∷ 0 ∷ 0 ∷ 0 ∷ []) out).page = gave-page ∙ ap (λ (l : List ℕ). (pageIn l out).page) e in
-      (λ l. f ∙ icr-page out 81 l, λ l. f ∙ icr-page out 80 l)
+      let f : C.gave ≡ (page_in (0x1C ∷ 0x01 ∷ 0 ∷ 0 ∷ 0 ∷ 0 ∷ 0 ∷ 0 ∷ []) out).page = gave_page ∙ ap (λ (l : List ℕ). (page_in l out).page) e in
+      (λ l. f ∙ icr_page out 81 l, λ l. f ∙ icr_page out 80 l)
 
 -- two calls that laid out the same page were lent the same log
-same-page : (C D : LayCall) (n : ℕ) → C.gave ≡ Laid n → D.gave ≡ Laid n → take n (out' C) ≡ take n (out' D) →
+same_page : (C D : LayCall) (n : ℕ) → C.gave ≡ Laid n → D.gave ≡ Laid n → take n (out' C) ≡ take n (out' D) →
     Below 256 (log C) → Below 256 (log D) → log C ≡ log D
-unfolding faultOf
-same-page C D n e f s h l =
-    page-promises.same_bytes (log C) (log D) h l (sound C n e) (sound D n f) (sym (its-bytes C n e) ∙ s ∙ its-bytes D n f)
+unfolding fault_of
+same_page C D n e f s h l =
+    page_promises.same_bytes (log C) (log D) h l (sound C n e) (sound D n f) (sym (its_bytes C n e) ∙ s ∙ its_bytes D n f)
   where
-    sound : (C : LayCall) (n : ℕ) → C.gave ≡ Laid n → faultOf (log C) ≡ Nothing
+    sound : (C : LayCall) (n : ℕ) → C.gave ≡ Laid n → fault_of (log C) ≡ Nothing
     sound C n e =
         let z = only_then C n e in
-        rw (eq-eqb (length (log C) % 8) 0 z.0) (page-promises.only_so 1 (words_in (log C)) (each-known (words_in (log C)) z.1))
+        rw (eq-eqb (length (log C) % 8) 0 z.0) (page_promises.only_so 1 (words_in (log C)) (each_known (words_in (log C)) z.1))
 
 -- ---- The numbers of an answer: 0 and the page's length, or 15 and 0.
 
-refusal-number : (C : RefusalCall) → ((n : ℕ) → C.given.0 ≡ Laid n → C.gave ≡ 0) × (C.given.0 ≡ Refused → C.gave ≡ 15)
-refusal-number C = (λ n e. C.contract ∙ ap pageRefusal e, λ e. C.contract ∙ ap pageRefusal e)
+refusal_number_holds : (C : RefusalCall) → ((n : ℕ) → C.given.0 ≡ Laid n → C.gave ≡ 0) × (C.given.0 ≡ Refused → C.gave ≡ 15)
+refusal_number_holds C = (λ n e. C.contract ∙ ap page_refusal e, λ e. C.contract ∙ ap page_refusal e)
 
-length-number : (C : LengthCall) → ((n : ℕ) → C.given.0 ≡ Laid n → C.gave ≡ n) × (C.given.0 ≡ Refused → C.gave ≡ 0)
-length-number C = (λ n e. C.contract ∙ ap pageLength e, λ e. C.contract ∙ ap pageLength e)
+length_number : (C : LengthCall) → ((n : ℕ) → C.given.0 ≡ Laid n → C.gave ≡ n) × (C.given.0 ≡ Refused → C.gave ≡ 0)
+length_number C = (λ n e. C.contract ∙ ap page_length e, λ e. C.contract ∙ ap page_length e)
 
 -- ---- Entries put into a window, the first with a number that is asked for.
 
-append-lines : (n k : ℕ) (ws vs : List ℕ) → length ws ≡ 2 * k → lines_of n (ws ++ vs) ≡ lines_of n ws ++ lines_of (n + k) vs
+append_lines : (n k : ℕ) (ws vs : List ℕ) → length ws ≡ 2 * k → lines_of n (ws ++ vs) ≡ lines_of n ws ++ lines_of (n + k) vs
 unfolding lines_of
-append-lines n k [] vs h = (let e : n + k ≡ n = omega arith in rw e)
-append-lines n k (w ∷ []) vs h = absurd (omega arith)
-append-lines n k (code ∷ value ∷ ws) vs h =
+append_lines n k [] vs h = (let e : n + k ≡ n = omega arith in rw e)
+append_lines n k (w ∷ []) vs h = absurd (omega arith)
+append_lines n k (code ∷ value ∷ ws) vs h =
     let e : n + 1 + (k - 1) ≡ n + k = omega arith in
-    let f = rw e at (append-lines (n + 1) (k - 1) ws vs (omega arith)) in
-    rw f (sym (append_assoc (entryLines n code value) (lines_of (n + 1) ws) (lines_of (n + k) vs)))
+    let f = rw e at (append_lines (n + 1) (k - 1) ws vs (omega arith)) in
+    rw f (sym (append_assoc (entry_lines n code value) (lines_of (n + 1) ws) (lines_of (n + k) vs)))
 
-append-text : (n k : ℕ) (ws vs : List ℕ) → length ws ≡ 2 * k → entriesText n (ws ++ vs) ≡ entriesText n ws ++ entriesText (n + k) vs
-append-text n k ws vs h = ap text_of (append-lines n k ws vs h) ∙ text-append (lines_of n ws) (lines_of (n + k) vs)
+append_text : (n k : ℕ) (ws vs : List ℕ) → length ws ≡ 2 * k → entries_text n (ws ++ vs) ≡ entries_text n ws ++ entries_text (n + k) vs
+append_text n k ws vs h = ap text_of (append_lines n k ws vs h) ∙ text_append (lines_of n ws) (lines_of (n + k) vs)
 
-not_known : (a : Access) → isKnown a ≡ false → a ≡ Unknown
+not_known : (a : Access) → is_known a ≡ false → a ≡ Unknown
 not_known (Read r) e = let z : ◌≡◌ {A = ℕ} 0 1 = cc in absurd (omega arith)
 not_known (Write r) e = let z : ◌≡◌ {A = ℕ} 0 1 = cc in absurd (omega arith)
 not_known Unknown e = refl
 
-no_text : (n code value : ℕ) → is_code code ≡ false → entriesText n (code ∷ value ∷ []) ≡ []
-unfolding lines_of entryLines text_of
-no_text n code value h = (let e : accessOf code ≡ Unknown = not_known (accessOf code) (is-code code ∙ h) in rw e)
+no_text : (n code value : ℕ) → is_code code ≡ false → entries_text n (code ∷ value ∷ []) ≡ []
+unfolding lines_of entry_lines text_of
+no_text n code value h = (let e : access_of code ≡ Unknown = not_known (access_of code) (is_code_holds code ∙ h) in rw e)
 
-late-text : entriesText 1000000 (0x11C ∷ 0 ∷ []) ≡ filled 80 (codes "000000 write ICR     00000000") ++ codes "\n"
-unfolding lines_of entryLines accessOf head_of lines_from text_of tokensBelow bitTokens flagTokens getOf bits_at spelledOf hexDigitOf
-late-text = refl
+late_text : entries_text 1000000 (0x11C ∷ 0 ∷ []) ≡ filled 80 (codes "000000 write ICR     00000000") ++ codes "\n"
+unfolding lines_of entry_lines access_of head_of lines_from text_of tokens_below bit_tokens flag_tokens get_of bits_at spelled_of hex_digit_of
+late_text = refl
 
 module _ (C : PutCall) where
   abbrev start : Cursor
@@ -405,42 +405,42 @@ module _ (C : PutCall) where
   room' = C.left.1.1.1.0.now
 
   abbrev lines : List ℕ
-  lines = entriesText first words
+  lines = entries_text first words
 
   -- at the start of a window that shows the text from byte `from` on, the window is filled
   in_window : (from : ℕ) → start ≡ start_of from →
       let shown : List ℕ = take (length room) (drop from lines) in (C.gave.at ≡ length shown) × (room' ≡ shown ++ drop (length shown) room)
-  unfolding windowOf
+  unfolding window_of
   in_window from e =
-      let w = windowed from lines room (laid C.gave room') (C.contract ∙ ap (λ (p : Cursor). emitOf lines (laid p room)) e) in
+      let w = windowed from lines room (laid C.gave room') (C.contract ∙ ap (λ (p : Cursor). emit_of lines (laid p room)) e) in
       (ap (λ (S : Shown). S.count) w, ap (λ (S : Shown). S.bytes) w)
 
-  in-room : start ≡ start_of 0 → length lines ≤ length room → (C.gave.at ≡ length lines) × (room' ≡ lines ++ drop (length lines) room)
-  in-room e h =
+  in_room : start ≡ start_of 0 → length lines ≤ length room → (C.gave.at ≡ length lines) × (room' ≡ lines ++ drop (length lines) room)
+  in_room e h =
       let w = in_window 0 e in
       let t = take_all (length room) lines h in
       (w.0 ∙ ap length t, w.1 ∙ rw t)
 
   -- of entry 1,000,000 the last six digits are shown
-  late-entry : first ≡ 1000000 → words ≡ 0x11C ∷ 0 ∷ [] → start ≡ start_of 0 → 81 ≤ length room → take 6 room' ≡ codes "000000"
-  late-entry e f s h =
-      let t : lines ≡ filled 80 (codes "000000 write ICR     00000000") ++ codes "\n" = ap₂ entriesText e f ∙ late-text in
-      ap (take 6) ((in-room s (omega (arith, ap length t))).1 ∙ ap (λ (l : List ℕ). l ++ drop (length lines) room) t)
+  late_entry : first ≡ 1000000 → words ≡ 0x11C ∷ 0 ∷ [] → start ≡ start_of 0 → 81 ≤ length room → take 6 room' ≡ codes "000000"
+  late_entry e f s h =
+      let t : lines ≡ filled 80 (codes "000000 write ICR     00000000") ++ codes "\n" = ap₂ entries_text e f ∙ late_text in
+      ap (take 6) ((in_room s (omega (arith, ap length t))).1 ∙ ap (λ (l : List ℕ). l ++ drop (length lines) room) t)
 
   -- an entry with another code has no line
   no_line : (code value : ℕ) → words ≡ code ∷ value ∷ [] → is_code code ≡ false → laid C.gave room' ≡ laid start room
   no_line code value e h =
-      let t : lines ≡ [] = ap (entriesText first) e ∙ no_text first code value h in
-      C.contract ∙ ap (λ (l : List ℕ). emitOf l (laid start room)) t ∙ emit-none (laid start room)
+      let t : lines ≡ [] = ap (entries_text first) e ∙ no_text first code value h in
+      C.contract ∙ ap (λ (l : List ℕ). emit_of l (laid start room)) t ∙ emit_none (laid start room)
 
 -- entries put in two calls, the second from where the first ended, are put as in one
-in-two-calls : (A B C : PutCall) (k : ℕ) → length (words A) ≡ 2 * k → first B ≡ first A + k → laid (start B) (room B) ≡ laid A.gave (room' A) →
+in_two_calls : (A B C : PutCall) (k : ℕ) → length (words A) ≡ 2 * k → first B ≡ first A + k → laid (start B) (room B) ≡ laid A.gave (room' A) →
     first C ≡ first A → words C ≡ words A ++ words B → laid (start C) (room C) ≡ laid (start A) (room A) →
     laid C.gave (room' C) ≡ laid B.gave (room' B)
-in-two-calls A B C k h n b m l c =
-    C.contract ∙ ap₂ emitOf (ap₂ entriesText m l ∙ append-text (first A) k (words A) (words B) h) c
-    ∙ sym (then (lines A) (entriesText (first A + k) (words B)) (laid (start A) (room A)) (laid A.gave (room' A)) (laid B.gave (room' B)) A.contract
-    (B.contract ∙ ap₂ emitOf (ap (λ (i : ℕ). entriesText i (words B)) n) b))
+in_two_calls A B C k h n b m l c =
+    C.contract ∙ ap₂ emit_of (ap₂ entries_text m l ∙ append_text (first A) k (words A) (words B) h) c
+    ∙ sym (then (lines A) (entries_text (first A + k) (words B)) (laid (start A) (room A)) (laid A.gave (room' A)) (laid B.gave (room' B)) A.contract
+    (B.contract ∙ ap₂ emit_of (ap (λ (i : ℕ). entries_text i (words B)) n) b))
 
 -- two calls that put the same text from entry 1 on, with room for it, were lent the same words
 same_text : (C D : PutCall) → first C ≡ 1 → first D ≡ 1 → start C ≡ start_of 0 → start D ≡ start_of 0 →
@@ -448,18 +448,18 @@ same_text : (C D : PutCall) → first C ≡ 1 → first D ≡ 1 → start C ≡ 
     take C.gave.at (room' C) ≡ take D.gave.at (room' D) →
     Below 4294967296 (words C) → Below 4294967296 (words D) → Known (words C) → Known (words D) → words C ≡ words D
 same_text C D e f p q h l t b c K M =
-    page-promises.same_log (words C) (words D) b c (each-known (words C) K) (each-known (words D) M)
-    (sym (its-text C e p h) ∙ t ∙ its-text D f q l)
+    page_promises.same_log (words C) (words D) b c (each_known (words C) K) (each_known (words D) M)
+    (sym (its_text C e p h) ∙ t ∙ its_text D f q l)
   where
-    its-text : (C : PutCall) → first C ≡ 1 → start C ≡ start_of 0 → length (lines C) ≤ length (room C) → take C.gave.at (room' C) ≡ page_of (words C)
-    its-text C e p h =
-        let w = in-room C p h in
-        ap₂ take w.0 w.1 ∙ take-append_seam (lines C) (drop (length (lines C)) (room C)) ∙ ap (λ (n : ℕ). entriesText n (words C)) e
+    its_text : (C : PutCall) → first C ≡ 1 → start C ≡ start_of 0 → length (lines C) ≤ length (room C) → take C.gave.at (room' C) ≡ page_of (words C)
+    its_text C e p h =
+        let w = in_room C p h in
+        ap₂ take w.0 w.1 ∙ take-append_seam (lines C) (drop (length (lines C)) (room C)) ∙ ap (λ (n : ℕ). entries_text n (words C)) e
 
 -- ---- The value of an entry by what stands from column 31 on.
 
-reads : (r : Register) → accessOf (offset_of r) ≡ Read r
-unfolding accessOf
+reads : (r : Register) → access_of (offset_of r) ≡ Read r
+unfolding access_of
 reads Cr1 = refl
 reads Cr2 = refl
 reads Oar1 = refl
@@ -470,8 +470,8 @@ reads Icr = refl
 reads Rxdr = refl
 reads Txdr = refl
 
-writes : (r : Register) → accessOf (offset_of r + 0x100) ≡ Write r
-unfolding accessOf
+writes : (r : Register) → access_of (offset_of r + 0x100) ≡ Write r
+unfolding access_of
 writes Cr1 = refl
 writes Cr2 = refl
 writes Oar1 = refl
@@ -483,33 +483,33 @@ writes Rxdr = refl
 writes Txdr = refl
 
 -- tokens as a fitter reads them: a name's place, a number at its name's place, a bit's number
-by_hand : (valueIn Cr2 (codes "bit31 PECBYTE AUTOEND NBYTES=255 START HEAD10R SADD=1023") ≡ 0x86FF33FF) × (valueIn Oar2 (codes "OA2MSK=7 OA2=127 bit0") ≡ 0x7FF)
-unfolding worth isBlank digitOf
+by_hand : (value_in Cr2 (codes "bit31 PECBYTE AUTOEND NBYTES=255 START HEAD10R SADD=1023") ≡ 0x86FF33FF) × (value_in Oar2 (codes "OA2MSK=7 OA2=127 bit0") ≡ 0x7FF)
+unfolding worth is_blank digit_of
 by_hand = (refl, refl)
 
 -- the columns of lines from column 31 on, one under the other
-abbrev after-30 : List (List ℕ) → List (List ℕ)
-after-30 = map (drop 30)
+abbrev after_30 : List (List ℕ) → List (List ℕ)
+after_30 = map (drop 30)
 
 joined : List (List ℕ) → List ℕ
 joined [] = []
 joined (l ∷ ls) = l ++ codes "\n" ++ joined ls
 
-as-joined : (ls : List (List ℕ)) → fieldColumns ls ≡ joined (after-30 ls)
+as_joined : (ls : List (List ℕ)) → field_columns ls ≡ joined (after_30 ls)
 unfolding joined
-as-joined [] = refl
-as-joined (l ∷ ls) = ap (λ (t : List ℕ). drop 30 l ++ codes "\n" ++ t) (as-joined ls)
+as_joined [] = refl
+as_joined (l ∷ ls) = ap (λ (t : List ℕ). drop 30 l ++ codes "\n" ++ t) (as_joined ls)
 
 -- two reads, or two writes, of a register that look the same there are of the same value
 module _ (r : Register) (n m v w : ℕ) (h : v < 4294967296) (l : w < 4294967296) where
-  same_read : after-30 (entryLines n (offset_of r) v) ≡ after-30 (entryLines m (offset_of r) w) → v ≡ w
+  same_read : after_30 (entry_lines n (offset_of r) v) ≡ after_30 (entry_lines m (offset_of r) w) → v ≡ w
   same_read e =
-      sym (page-promises.value_read n (offset_of r) v r h (reads r))
-      ∙ ap (valueIn r) (as-joined (entryLines n (offset_of r) v) ∙ ap joined e ∙ sym (as-joined (entryLines m (offset_of r) w)))
-      ∙ page-promises.value_read m (offset_of r) w r l (reads r)
+      sym (page_promises.value_read n (offset_of r) v r h (reads r))
+      ∙ ap (value_in r) (as_joined (entry_lines n (offset_of r) v) ∙ ap joined e ∙ sym (as_joined (entry_lines m (offset_of r) w)))
+      ∙ page_promises.value_read m (offset_of r) w r l (reads r)
 
-  same_write : after-30 (entryLines n (offset_of r + 0x100) v) ≡ after-30 (entryLines m (offset_of r + 0x100) w) → v ≡ w
+  same_write : after_30 (entry_lines n (offset_of r + 0x100) v) ≡ after_30 (entry_lines m (offset_of r + 0x100) w) → v ≡ w
   same_write e =
-      sym (page-promises.value_written n (offset_of r + 0x100) v r h (writes r))
-      ∙ ap (valueIn r) (as-joined (entryLines n (offset_of r + 0x100) v) ∙ ap joined e ∙ sym (as-joined (entryLines m (offset_of r + 0x100) w)))
-      ∙ page-promises.value_written m (offset_of r + 0x100) w r l (writes r)
+      sym (page_promises.value_written n (offset_of r + 0x100) v r h (writes r))
+      ∙ ap (value_in r) (as_joined (entry_lines n (offset_of r + 0x100) v) ∙ ap joined e ∙ sym (as_joined (entry_lines m (offset_of r + 0x100) w)))
+      ∙ page_promises.value_written m (offset_of r + 0x100) w r l (writes r)

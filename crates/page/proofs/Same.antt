@@ -7,49 +7,49 @@ use mathlib.Core.List.{List, [], ◌∷◌, ◌++◌, append_assoc}
 use lib.Dec.{eqb, leb}
 use lib.ListN.{length, length-append}
 use borrow.Author.Tests.{eqb-true}
-use Rattle.numerals.specs.Numbers.{spelledOf, hexOf}
-use Rattle.registers.specs.Fields.{registers, registerName}
+use Rattle.numerals.specs.Numbers.{spelled_of, hex_of}
+use Rattle.registers.specs.Fields.{registers, register_name}
 use Rattle.registers.specs.Map.{offset_of}
 use Rattle.registers.specs.declared.Register.{Register}
 use Rattle.registers.specs.declared.Register.TheVariants.{Cr1, Cr2, Oar1, Oar2, Timingr, Isr, Icr, Rxdr, Txdr}
 use Rattle.window.specs.Codes.{codes}
 use Rattle.words.specs.Words.{words_in, bytes_of, Below}
-use Rattle.words.proofs.Round.{whole_words, bytes-make-words}
+use Rattle.words.proofs.Round.{whole_words, bytes_make_words}
 use Rattle.page.specs.Back.{same}
-use Rattle.page.specs.Page.{accessIn, accessOf, spaces, filled, head_of, lines_from, accessLines, entryLines, lines_of, text_of, entriesText, page_of, isKnown, faultFrom, faultOf}
+use Rattle.page.specs.Page.{access_in, access_of, spaces, filled, head_of, lines_from, access_lines, entry_lines, lines_of, text_of, entries_text, page_of, is_known, fault_from, fault_of}
 use Rattle.page.specs.Promises.{EachKnown}
-use Rattle.page.specs.Tokens.{Token, tokensOf}
+use Rattle.page.specs.Tokens.{Token, tokens_of}
 use Rattle.page.specs.declared.Access.{Access}
 use Rattle.page.specs.declared.Access.TheVariants.{Read, Write, Unknown}
 use Rattle.page.specs.declared.Fault.TheVariants.{Nothing, NotWhole}
-use Rattle.page.proofs.Lines.{Name, name_by, name_of, length-head}
+use Rattle.page.proofs.Lines.{Name, name_by, name_of, length_head}
 use Rattle.page.proofs.Sound.{sound}
-use Rattle.page.proofs.Spelled.{same_parts, same-spelled}
-use Rattle.page.proofs.Texts.{length-filled}
+use Rattle.page.proofs.Spelled.{same_parts, same_spelled}
+use Rattle.page.proofs.Texts.{length_filled}
 
 -- ---- an entry's text begins with its head
-pub text-append : (ls ms : List (List ℕ)) → text_of (ls ++ ms) ≡ text_of ls ++ text_of ms
+pub text_append : (ls ms : List (List ℕ)) → text_of (ls ++ ms) ≡ text_of ls ++ text_of ms
 unfolding text_of
-text-append [] ms = refl
-text-append (l ∷ ls) ms = rw (text-append ls ms) (sym (append_assoc (l ++ codes "\n") (text_of ls) (text_of ms)))
+text_append [] ms = refl
+text_append (l ∷ ls) ms = rw (text_append ls ms) (sym (append_assoc (l ++ codes "\n") (text_of ls) (text_of ms)))
 
 record Begins (text front : List ℕ) : Type 0 where
   rest : List ℕ
   whole : text ≡ front ++ rest
 
-full-begins : (line : List ℕ) (ls : List (List ℕ)) → Begins (text_of (filled 80 line ∷ ls)) line
+full_begins : (line : List ℕ) (ls : List (List ℕ)) → Begins (text_of (filled 80 line ∷ ls)) line
 unfolding text_of
-full-begins line ls = record { rest = spaces (80 - length line) ++ codes "\n" ++ text_of ls; whole = simp append_assoc }
+full_begins line ls = record { rest = spaces (80 - length line) ++ codes "\n" ++ text_of ls; whole = simp append_assoc }
 
-line-begins : (line : List ℕ) (ts : List Token) → Begins (text_of (lines_from line ts)) line
+line_begins : (line : List ℕ) (ts : List Token) → Begins (text_of (lines_from line ts)) line
 unfolding lines_from
-line-begins line [] = full-begins line []
-line-begins line (t ∷ ts) = by (leb (length line + (1 + length t)) 80) (line-begins (line ++ spaces 1 ++ t) ts)
+line_begins line [] = full_begins line []
+line_begins line (t ∷ ts) = by (leb (length line + (1 + length t)) 80) (line_begins (line ++ spaces 1 ++ t) ts)
   where
     by : (b : Bool) → Begins (text_of (lines_from (line ++ spaces 1 ++ t) ts)) (line ++ spaces 1 ++ t) →
         Begins (text_of (cond b (lines_from (line ++ spaces 1 ++ t) ts) (filled 80 line ∷ lines_from (spaces 30 ++ t) ts))) line
     by true h = record { rest = spaces 1 ++ t ++ h.rest; whole = h.whole ∙ simp append_assoc }
-    by false h = full-begins line (lines_from (spaces 30 ++ t) ts)
+    by false h = full_begins line (lines_from (spaces 30 ++ t) ts)
 
 -- what was done, where
 abbrev done_of : Access → List ℕ
@@ -57,18 +57,18 @@ done_of (Read r) = codes "read"
 done_of (Write r) = codes "write"
 done_of Unknown = []
 
-abbrev registerIn : Access → Register
-registerIn (Read r) = r
-registerIn (Write r) = r
-registerIn Unknown = Cr1
+abbrev register_in : Access → Register
+register_in (Read r) = r
+register_in (Write r) = r
+register_in Unknown = Cr1
 
-abbrev headFor : ℕ → Access → ℕ → List ℕ
-headFor n a value = head_of n (done_of a) (registerIn a) value
+abbrev head_for : ℕ → Access → ℕ → List ℕ
+head_for n a value = head_of n (done_of a) (register_in a) value
 
-access-begins : (n : ℕ) (a : Access) (value : ℕ) → isKnown a ≡ true → Begins (text_of (accessLines n a value)) (headFor n a value)
-access-begins n (Read r) value k = line-begins (head_of n (codes "read") r value) (tokensOf r value)
-access-begins n (Write r) value k = line-begins (head_of n (codes "write") r value) (tokensOf r value)
-access-begins n Unknown value k = let z : ◌≡◌ {A = ℕ} 0 1 = cc in absurd (omega arith)
+access_begins : (n : ℕ) (a : Access) (value : ℕ) → is_known a ≡ true → Begins (text_of (access_lines n a value)) (head_for n a value)
+access_begins n (Read r) value k = line_begins (head_of n (codes "read") r value) (tokens_of r value)
+access_begins n (Write r) value k = line_begins (head_of n (codes "write") r value) (tokens_of r value)
+access_begins n Unknown value k = let z : ◌≡◌ {A = ℕ} 0 1 = cc in absurd (omega arith)
 
 -- ---- a head tells the code: the register's by its name, and a write's is 0x100 above
 abbrev code_of : Access → ℕ
@@ -76,46 +76,46 @@ code_of (Read r) = offset_of r
 code_of (Write r) = offset_of r + 0x100
 code_of Unknown = 0
 
-known-code : (code : ℕ) (rs : List Register) → isKnown (accessIn code rs) ≡ true → code ≡ code_of (accessIn code rs)
-known-code code [] k = let z : ◌≡◌ {A = ℕ} 0 1 = cc in absurd (omega arith)
-known-code code (r ∷ rs) k = by (eqb code (offset_of r)) (eqb code (offset_of r + 0x100)) refl refl k (known-code code rs)
+known_code : (code : ℕ) (rs : List Register) → is_known (access_in code rs) ≡ true → code ≡ code_of (access_in code rs)
+known_code code [] k = let z : ◌≡◌ {A = ℕ} 0 1 = cc in absurd (omega arith)
+known_code code (r ∷ rs) k = by (eqb code (offset_of r)) (eqb code (offset_of r + 0x100)) refl refl k (known_code code rs)
   where
-    by : (b c : Bool) → eqb code (offset_of r) ≡ b → eqb code (offset_of r + 0x100) ≡ c → isKnown (cond b (Read r) (cond c (Write r) (accessIn code rs))) ≡ true →
-        (isKnown (accessIn code rs) ≡ true → code ≡ code_of (accessIn code rs)) → code ≡ code_of (cond b (Read r) (cond c (Write r) (accessIn code rs)))
+    by : (b c : Bool) → eqb code (offset_of r) ≡ b → eqb code (offset_of r + 0x100) ≡ c → is_known (cond b (Read r) (cond c (Write r) (access_in code rs))) ≡ true →
+        (is_known (access_in code rs) ≡ true → code ≡ code_of (access_in code rs)) → code ≡ code_of (cond b (Read r) (cond c (Write r) (access_in code rs)))
     by true c p q l f = eqb-true code (offset_of r) p
     by false true p q l f = eqb-true code (offset_of r + 0x100) q
     by false false p q l f = f l
 
-abbrev offsetFor : List ℕ → List Register → ℕ
-offsetFor name [] = 0
-offsetFor name (r ∷ rs) = cond (same name (filled 7 (codes (registerName r)))) (offset_of r) (offsetFor name rs)
+abbrev offset_for : List ℕ → List Register → ℕ
+offset_for name [] = 0
+offset_for name (r ∷ rs) = cond (same name (filled 7 (codes (register_name r)))) (offset_of r) (offset_for name rs)
 
-abbrev codeFor : List ℕ → List ℕ → ℕ
-codeFor done name = cond (same done (codes "write")) (offsetFor name registers + 0x100) (offsetFor name registers)
+abbrev code_for : List ℕ → List ℕ → ℕ
+code_for done name = cond (same done (codes "write")) (offset_for name registers + 0x100) (offset_for name registers)
 
-offset-told : (r : Register) → offsetFor (filled 7 (codes (registerName r))) registers ≡ offset_of r
-offset-told Cr1 = refl
-offset-told Cr2 = refl
-offset-told Oar1 = refl
-offset-told Oar2 = refl
-offset-told Timingr = refl
-offset-told Isr = refl
-offset-told Icr = refl
-offset-told Rxdr = refl
-offset-told Txdr = refl
+offset_told : (r : Register) → offset_for (filled 7 (codes (register_name r))) registers ≡ offset_of r
+offset_told Cr1 = refl
+offset_told Cr2 = refl
+offset_told Oar1 = refl
+offset_told Oar2 = refl
+offset_told Timingr = refl
+offset_told Isr = refl
+offset_told Icr = refl
+offset_told Rxdr = refl
+offset_told Txdr = refl
 
-code-told : (a : Access) → isKnown a ≡ true → codeFor (filled 5 (done_of a)) (filled 7 (codes (registerName (registerIn a)))) ≡ code_of a
-code-told (Read r) k = offset-told r
-code-told (Write r) k = ap (λ (x : ℕ). x + 0x100) (offset-told r)
-code-told Unknown k = let z : ◌≡◌ {A = ℕ} 0 1 = cc in absurd (omega arith)
+code_told : (a : Access) → is_known a ≡ true → code_for (filled 5 (done_of a)) (filled 7 (codes (register_name (register_in a)))) ≡ code_of a
+code_told (Read r) k = offset_told r
+code_told (Write r) k = ap (λ (x : ℕ). x + 0x100) (offset_told r)
+code_told Unknown k = let z : ◌≡◌ {A = ℕ} 0 1 = cc in absurd (omega arith)
 
 -- ---- equal heads, part by part
 abbrev joined : List ℕ → List ℕ → List ℕ → List ℕ → List ℕ
 joined a b c d = a ++ spaces 1 ++ b ++ spaces 1 ++ c ++ spaces 1 ++ d
 
-same-four : (a b c d a' b' c' d' : List ℕ) → length a ≡ length a' → length b ≡ length b' → length c ≡ length c' →
+same_four : (a b c d a' b' c' d' : List ℕ) → length a ≡ length a' → length b ≡ length b' → length c ≡ length c' →
     joined a b c d ≡ joined a' b' c' d' → (b ≡ b') × (c ≡ c') × (d ≡ d')
-same-four a b c d a' b' c' d' h l m e =
+same_four a b c d a' b' c' d' h l m e =
     let x = same_parts (a ++ spaces 1 ++ b ++ spaces 1 ++ c ++ spaces 1) (a' ++ spaces 1 ++ b' ++ spaces 1 ++ c' ++ spaces 1) d d' (simp length-append (omega arith)) e in
     let y = same_parts (a ++ spaces 1 ++ b ++ spaces 1 ++ c) (a' ++ spaces 1 ++ b' ++ spaces 1 ++ c') (spaces 1) (spaces 1) (simp length-append (omega arith)) x.0 in
     let z = same_parts (a ++ spaces 1 ++ b ++ spaces 1) (a' ++ spaces 1 ++ b' ++ spaces 1) c c' (simp length-append (omega arith)) y.0 in
@@ -123,75 +123,75 @@ same-four a b c d a' b' c' d' h l m e =
     let v = same_parts (a ++ spaces 1) (a' ++ spaces 1) b b' (simp length-append (omega arith)) u.0 in
     (v.1, z.1, x.1)
 
-done-named : (a : Access) → Name (done_of a) 5
-done-named (Read r) = name_by 5 (codes "read") tt
-done-named (Write r) = name_by 5 (codes "write") tt
-done-named Unknown = name_by 5 [] tt
+done_named : (a : Access) → Name (done_of a) 5
+done_named (Read r) = name_by 5 (codes "read") tt
+done_named (Write r) = name_by 5 (codes "write") tt
+done_named Unknown = name_by 5 [] tt
 
-same_head : (n : ℕ) (a a' : Access) (value value' : ℕ) → isKnown a ≡ true → isKnown a' ≡ true → value < 2 ^ 32 → value' < 2 ^ 32 →
-    headFor n a value ≡ headFor n a' value' → (code_of a ≡ code_of a') × (value ≡ value')
+same_head : (n : ℕ) (a a' : Access) (value value' : ℕ) → is_known a ≡ true → is_known a' ≡ true → value < 2 ^ 32 → value' < 2 ^ 32 →
+    head_for n a value ≡ head_for n a' value' → (code_of a ≡ code_of a') × (value ≡ value')
 unfolding head_of
 same_head n a a' value value' k k' h h' e =
-    let name : Access → List ℕ = λ (b : Access). filled 7 (codes (registerName (registerIn b))) in
+    let name : Access → List ℕ = λ (b : Access). filled 7 (codes (register_name (register_in b))) in
     let done : Access → List ℕ = λ (b : Access). filled 5 (done_of b) in
-    let five : (b : Access) → length (done b) ≡ 5 = λ b. length-filled 5 (done_of b) (done-named b).short in
-    let seven : (b : Access) → length (name b) ≡ 7 = λ b. length-filled 7 (codes (registerName (registerIn b))) (name_of (registerIn b)).short in
-    let z = same-four (spelledOf 10 6 n) (done a) (name a) (hexOf 8 value) (spelledOf 10 6 n) (done a') (name a') (hexOf 8 value')
+    let five : (b : Access) → length (done b) ≡ 5 = λ b. length_filled 5 (done_of b) (done_named b).short in
+    let seven : (b : Access) → length (name b) ≡ 7 = λ b. length_filled 7 (codes (register_name (register_in b))) (name_of (register_in b)).short in
+    let z = same_four (spelled_of 10 6 n) (done a) (name a) (hex_of 8 value) (spelled_of 10 6 n) (done a') (name a') (hex_of 8 value')
     refl (five a ∙ sym (five a')) (seven a ∙ sym (seven a')) e in
-    (sym (code-told a k) ∙ ap₂ codeFor z.0 z.1 ∙ code-told a' k', same-spelled 8 value value' h h' z.2)
+    (sym (code_told a k) ∙ ap₂ code_for z.0 z.1 ∙ code_told a' k', same_spelled 8 value value' h h' z.2)
 
 -- ---- entry by entry
-module _ (n code value : ℕ) (known : isKnown (accessOf code) ≡ true) where
-  entry-begins : Begins (text_of (entryLines n code value)) (headFor n (accessOf code) value)
-  unfolding entryLines
-  entry-begins = access-begins n (accessOf code) value known
+module _ (n code value : ℕ) (known : is_known (access_of code) ≡ true) where
+  entry_begins : Begins (text_of (entry_lines n code value)) (head_for n (access_of code) value)
+  unfolding entry_lines
+  entry_begins = access_begins n (access_of code) value known
 
-  head-long : length (headFor n (accessOf code) value) ≡ 29
-  head-long = length-head n (done_of (accessOf code)) (registerIn (accessOf code)) value (done-named (accessOf code))
+  head_long : length (head_for n (access_of code) value) ≡ 29
+  head_long = length_head n (done_of (access_of code)) (register_in (access_of code)) value (done_named (access_of code))
 
-  not-empty : (text : List ℕ) → [] ≡ text_of (entryLines n code value) ++ text → ⊥
-  not-empty text e =
-      let b = entry-begins in
+  not_empty : (text : List ℕ) → [] ≡ text_of (entry_lines n code value) ++ text → ⊥
+  not_empty text e =
+      let b = entry_begins in
       let l = simp length-append at (ap length b.whole) in
-      omega (arith, head-long, l, simp length-append at (ap length e))
+      omega (arith, head_long, l, simp length-append at (ap length e))
 
-  code_is : code ≡ code_of (accessOf code)
-  unfolding accessOf
-  code_is = known-code code registers known
+  code_is : code ≡ code_of (access_of code)
+  unfolding access_of
+  code_is = known_code code registers known
 
-same-entry : (n code value code' value' : ℕ) → isKnown (accessOf code) ≡ true → isKnown (accessOf code') ≡ true → value < 2 ^ 32 → value' < 2 ^ 32 →
-    (text text' : List ℕ) → text_of (entryLines n code value) ++ text ≡ text_of (entryLines n code' value') ++ text' →
+same_entry : (n code value code' value' : ℕ) → is_known (access_of code) ≡ true → is_known (access_of code') ≡ true → value < 2 ^ 32 → value' < 2 ^ 32 →
+    (text text' : List ℕ) → text_of (entry_lines n code value) ++ text ≡ text_of (entry_lines n code' value') ++ text' →
     (code ≡ code') × (value ≡ value') × (text ≡ text')
-same-entry n code value code' value' k k' h h' text text' e =
-    let b = entry-begins n code value k in
-    let b' = entry-begins n code' value' k' in
-    let head : List ℕ = headFor n (accessOf code) value in
-    let head' : List ℕ = headFor n (accessOf code') value' in
+same_entry n code value code' value' k k' h h' text text' e =
+    let b = entry_begins n code value k in
+    let b' = entry_begins n code' value' k' in
+    let head : List ℕ = head_for n (access_of code) value in
+    let head' : List ℕ = head_for n (access_of code') value' in
     let f : head ++ (b.rest ++ text) ≡ head' ++ (b'.rest ++ text') =
     sym (append_assoc head b.rest text) ∙ ap (λ (s : List ℕ). s ++ text) (sym b.whole) ∙ e ∙ ap (λ (s : List ℕ). s ++ text') b'.whole ∙ append_assoc head' b'.rest text' in
-    let g = same_parts head head' (b.rest ++ text) (b'.rest ++ text') (head-long n code value k ∙ sym (head-long n code' value' k')) f in
-    let z = same_head n (accessOf code) (accessOf code') value value' k k' h h' g.0 in
+    let g = same_parts head head' (b.rest ++ text) (b'.rest ++ text') (head_long n code value k ∙ sym (head_long n code' value' k')) f in
+    let z = same_head n (access_of code) (access_of code') value value' k k' h h' g.0 in
     let c : code ≡ code' = code_is n code value k ∙ z.0 ∙ sym (code_is n code' value' k') in
-    let same_text : text_of (entryLines n code value) ≡ text_of (entryLines n code' value') = ap₂ (λ (x y : ℕ). text_of (entryLines n x y)) c z.1 in
-    (c, z.1, (same_parts (text_of (entryLines n code value)) (text_of (entryLines n code' value')) text text' (ap length same_text) e).1)
+    let same_text : text_of (entry_lines n code value) ≡ text_of (entry_lines n code' value') = ap₂ (λ (x y : ℕ). text_of (entry_lines n x y)) c z.1 in
+    (c, z.1, (same_parts (text_of (entry_lines n code value)) (text_of (entry_lines n code' value')) text text' (ap length same_text) e).1)
 
-pub entries : (n code value : ℕ) (log : List ℕ) → entriesText n (code ∷ value ∷ log) ≡ text_of (entryLines n code value) ++ entriesText (n + 1) log
+pub entries : (n code value : ℕ) (log : List ℕ) → entries_text n (code ∷ value ∷ log) ≡ text_of (entry_lines n code value) ++ entries_text (n + 1) log
 unfolding lines_of
-entries n code value log = text-append (entryLines n code value) (lines_of (n + 1) log)
+entries n code value log = text_append (entry_lines n code value) (lines_of (n + 1) log)
 
-pub nothing : (n : ℕ) → entriesText n [] ≡ []
+pub nothing : (n : ℕ) → entries_text n [] ≡ []
 unfolding lines_of text_of
 nothing n = refl
 
-same_from : (n : ℕ) (log log' : List ℕ) → Below (2 ^ 32) log → Below (2 ^ 32) log' → EachKnown log → EachKnown log' → entriesText n log ≡ entriesText n log' → log ≡ log'
+same_from : (n : ℕ) (log log' : List ℕ) → Below (2 ^ 32) log → Below (2 ^ 32) log' → EachKnown log → EachKnown log' → entries_text n log ≡ entries_text n log' → log ≡ log'
 same_from n [] [] h h' k k' e = refl
 same_from n [] (w ∷ []) h h' k k' e = absurd k'
-same_from n [] (code ∷ value ∷ log) h h' k k' e = absurd (not-empty n code value k'.0 (entriesText (n + 1) log) (sym (nothing n) ∙ e ∙ entries n code value log))
+same_from n [] (code ∷ value ∷ log) h h' k k' e = absurd (not_empty n code value k'.0 (entries_text (n + 1) log) (sym (nothing n) ∙ e ∙ entries n code value log))
 same_from n (w ∷ []) log' h h' k k' e = absurd k
-same_from n (code ∷ value ∷ log) [] h h' k k' e = absurd (not-empty n code value k.0 (entriesText (n + 1) log) (sym (nothing n) ∙ sym e ∙ entries n code value log))
+same_from n (code ∷ value ∷ log) [] h h' k k' e = absurd (not_empty n code value k.0 (entries_text (n + 1) log) (sym (nothing n) ∙ sym e ∙ entries n code value log))
 same_from n (code ∷ value ∷ log) (w ∷ []) h h' k k' e = absurd k'
 same_from n (code ∷ value ∷ log) (code' ∷ value' ∷ log') h h' k k' e =
-    let z = same-entry n code value code' value' k.0 k'.0 h.1.0 h'.1.0 (entriesText (n + 1) log) (entriesText (n + 1) log')
+    let z = same_entry n code value code' value' k.0 k'.0 h.1.0 h'.1.0 (entries_text (n + 1) log) (entries_text (n + 1) log')
     (sym (entries n code value log) ∙ e ∙ entries n code' value' log') in
     rw (z.0, z.1, same_from (n + 1) log log' h.1.1 h'.1.1 k.1 k'.1 z.2)
 
@@ -199,18 +199,18 @@ pub same_log : (log log' : List ℕ) → Below (2 ^ 32) log → Below (2 ^ 32) l
 same_log log log' h h' k k' e = same_from 1 log log' h h' k k' e
 
 -- ---- and the same bytes: a log without fault has whole words
-whole-log : (log : List ℕ) → faultOf log ≡ Nothing → (length log % 8 ≡ 0) × (faultFrom 1 (words_in log) ≡ Nothing)
-unfolding faultOf
-whole-log log e = by (eqb (length log % 8) 0) refl e
+whole_log : (log : List ℕ) → fault_of log ≡ Nothing → (length log % 8 ≡ 0) × (fault_from 1 (words_in log) ≡ Nothing)
+unfolding fault_of
+whole_log log e = by (eqb (length log % 8) 0) refl e
   where
-    by : (b : Bool) → eqb (length log % 8) 0 ≡ b → cond b (faultFrom 1 (words_in log)) NotWhole ≡ Nothing → (length log % 8 ≡ 0) × (faultFrom 1 (words_in log) ≡ Nothing)
+    by : (b : Bool) → eqb (length log % 8) 0 ≡ b → cond b (fault_from 1 (words_in log)) NotWhole ≡ Nothing → (length log % 8 ≡ 0) × (fault_from 1 (words_in log) ≡ Nothing)
     by true q f = (eqb-true (length log % 8) 0 q, f)
     by false q f = let z : ◌≡◌ {A = ℕ} 0 1 = cc in absurd (omega arith)
 
-pub same_bytes : (log log' : List ℕ) → Below 256 log → Below 256 log' → faultOf log ≡ Nothing → faultOf log' ≡ Nothing →
+pub same_bytes : (log log' : List ℕ) → Below 256 log → Below 256 log' → fault_of log ≡ Nothing → fault_of log' ≡ Nothing →
     page_of (words_in log) ≡ page_of (words_in log') → log ≡ log'
 same_bytes log log' h h' f f' e =
-    let w = whole-log log f in
-    let w' = whole-log log' f' in
-    let s : words_in log ≡ words_in log' = same_log (words_in log) (words_in log') (bytes-make-words log h) (bytes-make-words log' h') (sound 1 (words_in log) w.1) (sound 1 (words_in log') w'.1) e in
+    let w = whole_log log f in
+    let w' = whole_log log' f' in
+    let s : words_in log ≡ words_in log' = same_log (words_in log) (words_in log') (bytes_make_words log h) (bytes_make_words log' h') (sound 1 (words_in log) w.1) (sound 1 (words_in log') w'.1) e in
     sym (whole_words (length log / 4) log (omega (arith, w.0)) h) ∙ ap bytes_of s ∙ whole_words (length log' / 4) log' (omega (arith, w'.0)) h'

@@ -8,8 +8,8 @@ use mathlib.Core.List.{List, [], ◌∷◌, ◌++◌}
 use lib.Dec.{ltb}
 use lib.ListN.{length}
 use borrow.Author.Tests.{ltb-true, ltb-false}
-use Rattle.numerals.specs.Numbers.{hexDigitOf, spelledOf}
-use Rattle.numerals.proofs.Spelling.{length-spelled}
+use Rattle.numerals.specs.Numbers.{hex_digit_of, spelled_of}
+use Rattle.numerals.proofs.Spelling.{length_spelled}
 
 -- texts of the same length at the start of equal texts are equal, and so is what follows them
 pub same_parts : (a b c d : List ℕ) → length a ≡ length b → a ++ c ≡ b ++ d → (a ≡ b) × (c ≡ d)
@@ -22,9 +22,9 @@ same_parts (x ∷ a) (y ∷ b) c d l e =
     let z = same_parts a b c d (omega arith) g in
     (rw (f, z.0), z.1)
 
-same-digit : (d e : ℕ) → d < 16 → e < 16 → hexDigitOf d ≡ hexDigitOf e → d ≡ e
-unfolding hexDigitOf
-same-digit d e h l = by (ltb d 10) (ltb e 10) refl refl
+same_digit : (d e : ℕ) → d < 16 → e < 16 → hex_digit_of d ≡ hex_digit_of e → d ≡ e
+unfolding hex_digit_of
+same_digit d e h l = by (ltb d 10) (ltb e 10) refl refl
   where
     by : (b c : Bool) → ltb d 10 ≡ b → ltb e 10 ≡ c → cond b (48 + d) (65 + (d - 10)) ≡ cond c (48 + e) (65 + (e - 10)) → d ≡ e
     by true true p q s = omega arith
@@ -32,14 +32,14 @@ same-digit d e h l = by (ltb d 10) (ltb e 10) refl refl
     by false true p q s = omega (arith, ltb-true, ltb-false)
     by false false p q s = omega (arith, ltb-false)
 
-pub same-spelled : (k v w : ℕ) → v < 16 ^ k → w < 16 ^ k → spelledOf 16 k v ≡ spelledOf 16 k w → v ≡ w
-unfolding spelledOf
-same-spelled zero v w h l e = omega arith
-same-spelled (suc k) v w h l e =
-    let z = same_parts (spelledOf 16 k (v / 16)) (spelledOf 16 k (w / 16)) (hexDigitOf (v % 16) ∷ []) (hexDigitOf (w % 16) ∷ [])
-    (omega (arith, length-spelled 16 k (v / 16), length-spelled 16 k (w / 16))) e in
-    let last : hexDigitOf (v % 16) ∷ [] ≡ hexDigitOf (w % 16) ∷ [] = z.1 in
-    let digit : hexDigitOf (v % 16) ≡ hexDigitOf (w % 16) = cc in
+pub same_spelled : (k v w : ℕ) → v < 16 ^ k → w < 16 ^ k → spelled_of 16 k v ≡ spelled_of 16 k w → v ≡ w
+unfolding spelled_of
+same_spelled zero v w h l e = omega arith
+same_spelled (suc k) v w h l e =
+    let z = same_parts (spelled_of 16 k (v / 16)) (spelled_of 16 k (w / 16)) (hex_digit_of (v % 16) ∷ []) (hex_digit_of (w % 16) ∷ [])
+    (omega (arith, length_spelled 16 k (v / 16), length_spelled 16 k (w / 16))) e in
+    let last : hex_digit_of (v % 16) ∷ [] ≡ hex_digit_of (w % 16) ∷ [] = z.1 in
+    let digit : hex_digit_of (v % 16) ≡ hex_digit_of (w % 16) = cc in
     let p : v / 16 < 16 ^ k = omega (arith, pow-succ' 16 k) in
     let q : w / 16 < 16 ^ k = omega (arith, pow-succ' 16 k) in
-    omega (arith, same-spelled k (v / 16) (w / 16) p q z.0, same-digit (v % 16) (w % 16) (omega arith) (omega arith) digit)
+    omega (arith, same_spelled k (v / 16) (w / 16) p q z.0, same_digit (v % 16) (w % 16) (omega arith) (omega arith) digit)

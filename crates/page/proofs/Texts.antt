@@ -9,53 +9,53 @@ use mathlib.Core.List.{List, [], ◌∷◌, ◌++◌}
 use lib.Dec.{T, eqb, leb, ltb, leb→le, ltb→lt, lit≤, lit<}
 use lib.ListN.{length, replicate, length-append, length-replicate, replicate-append-replicate}
 use Rattle.fields.proofs.Laws.{and_l, and_r}
-use Rattle.numerals.specs.Numbers.{hexDigitOf, spelledOf, significantOf, decimalOf}
+use Rattle.numerals.specs.Numbers.{hex_digit_of, spelled_of, significant_of, decimal_of}
 use Rattle.numerals.proofs.Spelling.{below}
 use Rattle.page.specs.Page.{spaces, filled}
 use Rattle.page.specs.Promises.{Printable}
 
 -- ---- how long they are
-pub length-filled : (n : ℕ) (t : List ℕ) → length t ≤ n → length (filled n t) ≡ n
-length-filled n t h = simp (length-append, length-replicate) (omega arith)
+pub length_filled : (n : ℕ) (t : List ℕ) → length t ≤ n → length (filled n t) ≡ n
+length_filled n t h = simp (length-append, length-replicate) (omega arith)
 
 -- ---- decimal digits: a number below 10 ^ (k + 1) has at most k + 1 of them
 -- with one digit more a text is at most one longer
-one_more : (s : List ℕ) (d : ℕ) → length (significantOf (s ++ (d ∷ []))) ≤ 1 + length (significantOf s)
-unfolding significantOf
-one_more [] d = omega arith
-one_more (e ∷ []) d = by (eqb e 48)
+one_more_holds : (s : List ℕ) (d : ℕ) → length (significant_of (s ++ (d ∷ []))) ≤ 1 + length (significant_of s)
+unfolding significant_of
+one_more_holds [] d = omega arith
+one_more_holds (e ∷ []) d = by (eqb e 48)
   where
     by : (b : Bool) → length (cond b (d ∷ []) (e ∷ d ∷ [])) ≤ 2
     by true = omega arith
     by false = omega arith
-one_more (e ∷ f ∷ s) d = by (eqb e 48) (one_more (f ∷ s) d)
+one_more_holds (e ∷ f ∷ s) d = by (eqb e 48) (one_more_holds (f ∷ s) d)
   where
-    by : (b : Bool) → length (significantOf (f ∷ (s ++ (d ∷ [])))) ≤ 1 + length (significantOf (f ∷ s)) →
-        length (cond b (significantOf (f ∷ (s ++ (d ∷ [])))) (e ∷ f ∷ (s ++ (d ∷ [])))) ≤ 1 + length (cond b (significantOf (f ∷ s)) (e ∷ f ∷ s))
+    by : (b : Bool) → length (significant_of (f ∷ (s ++ (d ∷ [])))) ≤ 1 + length (significant_of (f ∷ s)) →
+        length (cond b (significant_of (f ∷ (s ++ (d ∷ [])))) (e ∷ f ∷ (s ++ (d ∷ [])))) ≤ 1 + length (cond b (significant_of (f ∷ s)) (e ∷ f ∷ s))
     by true h = h
     by false h = simp length-append (omega arith)
 
 -- and of zeros in front none stays
-all-zeros : (m : ℕ) → spelledOf 10 m 0 ≡ replicate m 48
-unfolding spelledOf hexDigitOf
-all-zeros zero = refl
-all-zeros (suc m) = rw (all-zeros m, replicate-append-replicate {A = ℕ} m 1 48, add-one)
+all_zeros : (m : ℕ) → spelled_of 10 m 0 ≡ replicate m 48
+unfolding spelled_of hex_digit_of
+all_zeros zero = refl
+all_zeros (suc m) = rw (all_zeros m, replicate-append-replicate {A = ℕ} m 1 48, add-one)
 
-last-stays : (m d : ℕ) → significantOf (replicate m 48 ++ (d ∷ [])) ≡ d ∷ []
-unfolding significantOf
-last-stays zero d = refl
-last-stays (suc zero) d = refl
-last-stays (suc (suc m)) d = last-stays (suc m) d
+last_stays : (m d : ℕ) → significant_of (replicate m 48 ++ (d ∷ [])) ≡ d ∷ []
+unfolding significant_of
+last_stays zero d = refl
+last_stays (suc zero) d = refl
+last_stays (suc (suc m)) d = last_stays (suc m) d
 
-pub few-digits : (m k n : ℕ) → n < 10 ^ suc k → length (significantOf (spelledOf 10 m n)) ≤ suc k
-unfolding spelledOf significantOf
-few-digits zero k n h = omega arith
-few-digits (suc m) zero n h =
+pub few_digits : (m k n : ℕ) → n < 10 ^ suc k → length (significant_of (spelled_of 10 m n)) ≤ suc k
+unfolding spelled_of significant_of
+few_digits zero k n h = omega arith
+few_digits (suc m) zero n h =
     let e : n / 10 ≡ 0 = omega arith in
-    rw (e, all-zeros m, last-stays) (omega arith)
-few-digits (suc m) (suc k) n h =
+    rw (e, all_zeros m, last_stays) (omega arith)
+few_digits (suc m) (suc k) n h =
     let g : n / 10 < 10 ^ suc k = omega (arith, pow-succ' 10 (suc k)) in
-    omega (arith, one_more (spelledOf 10 m (n / 10)) (hexDigitOf (n % 10)), few-digits m k (n / 10) g)
+    omega (arith, one_more_holds (spelled_of 10 m (n / 10)) (hex_digit_of (n % 10)), few_digits m k (n / 10) g)
 
 -- ---- that they are printable
 abbrev pub printable : List ℕ → Bool
@@ -68,40 +68,40 @@ printed (c ∷ s) t =
     let u = and_r (leb 32 c) _ t in
     (leb→le 32 c (and_l (leb 32 c) _ t), ltb→lt c 127 (and_l (ltb c 127) _ u), printed s (and_r (ltb c 127) _ u))
 
-pub print-append : (s t : List ℕ) → Printable s → Printable t → Printable (s ++ t)
-print-append [] t h l = l
-print-append (c ∷ s) t h l = (h.0, h.1, print-append s t h.2 l)
+pub print_append : (s t : List ℕ) → Printable s → Printable t → Printable (s ++ t)
+print_append [] t h l = l
+print_append (c ∷ s) t h l = (h.0, h.1, print_append s t h.2 l)
 
-pub print-spaces : (n : ℕ) → Printable (spaces n)
-print-spaces zero = tt
-print-spaces (suc n) = (lit≤ tt, lit< tt, print-spaces n)
+pub print_spaces : (n : ℕ) → Printable (spaces n)
+print_spaces zero = tt
+print_spaces (suc n) = (lit≤ tt, lit< tt, print_spaces n)
 
-pub print-filled : (n : ℕ) (t : List ℕ) → Printable t → Printable (filled n t)
-print-filled n t h = print-append t (spaces (n - length t)) h (print-spaces (n - length t))
+pub print_filled : (n : ℕ) (t : List ℕ) → Printable t → Printable (filled n t)
+print_filled n t h = print_append t (spaces (n - length t)) h (print_spaces (n - length t))
 
-print-digit : (d : ℕ) → d < 16 → Printable (hexDigitOf d ∷ [])
-unfolding hexDigitOf
-print-digit d h = by (ltb d 10)
+print_digit : (d : ℕ) → d < 16 → Printable (hex_digit_of d ∷ [])
+unfolding hex_digit_of
+print_digit d h = by (ltb d 10)
   where
     by : (b : Bool) → Printable (cond b (48 + d) (65 + (d - 10)) ∷ [])
     by true = (omega arith, omega arith, tt)
     by false = (omega arith, omega arith, tt)
 
-pub print-spelled : (base k n : ℕ) → 1 ≤ base → base ≤ 16 → Printable (spelledOf base k n)
-unfolding spelledOf
-print-spelled base zero n h l = tt
-print-spelled base (suc k) n h l =
-    print-append (spelledOf base k (n / base)) (hexDigitOf (n % base) ∷ []) (print-spelled base k (n / base) h l) (print-digit (n % base) (below n base h l))
+pub print_spelled : (base k n : ℕ) → 1 ≤ base → base ≤ 16 → Printable (spelled_of base k n)
+unfolding spelled_of
+print_spelled base zero n h l = tt
+print_spelled base (suc k) n h l =
+    print_append (spelled_of base k (n / base)) (hex_digit_of (n % base) ∷ []) (print_spelled base k (n / base) h l) (print_digit (n % base) (below n base h l))
 
-print-significant : (s : List ℕ) → Printable s → Printable (significantOf s)
-unfolding significantOf
-print-significant [] h = h
-print-significant (d ∷ []) h = h
-print-significant (d ∷ e ∷ s) h = by (eqb d 48) (print-significant (e ∷ s) h.2)
+print_significant : (s : List ℕ) → Printable s → Printable (significant_of s)
+unfolding significant_of
+print_significant [] h = h
+print_significant (d ∷ []) h = h
+print_significant (d ∷ e ∷ s) h = by (eqb d 48) (print_significant (e ∷ s) h.2)
   where
-    by : (b : Bool) → Printable (significantOf (e ∷ s)) → Printable (cond b (significantOf (e ∷ s)) (d ∷ e ∷ s))
+    by : (b : Bool) → Printable (significant_of (e ∷ s)) → Printable (cond b (significant_of (e ∷ s)) (d ∷ e ∷ s))
     by true l = l
     by false l = h
 
-pub print-decimal : (n : ℕ) → Printable (decimalOf n)
-print-decimal n = print-significant (spelledOf 10 20 n) (print-spelled 10 20 n (lit≤ tt) (lit≤ tt))
+pub print_decimal : (n : ℕ) → Printable (decimal_of n)
+print_decimal n = print_significant (spelled_of 10 20 n) (print_spelled 10 20 n (lit≤ tt) (lit≤ tt))

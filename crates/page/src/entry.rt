@@ -1,9 +1,9 @@
 // The lines of one entry.
 ghost use Rattle.std.specs.Prelude.{◌≡◌, ◌++◌, ◌≤◌, length};
-ghost use Rattle.numerals.specs.Numbers.{spelledOf, hexOf};
-ghost use Rattle.page.specs.Page.{accessOf, spaces, filled, head_of, registerLines, accessLines, entryLines, text_of};
+ghost use Rattle.numerals.specs.Numbers.{spelled_of, hex_of};
+ghost use Rattle.page.specs.Page.{access_of, spaces, filled, head_of, register_lines, access_lines, entry_lines, text_of};
 ghost use Rattle.page.specs.Put.{done_of, name_of};
-ghost use Rattle.window.specs.Window.{laid, emitOf};
+ghost use Rattle.window.specs.Window.{laid, emit_of};
 
 use crate::Access;
 use crate::line::{Line, end_line};
@@ -13,7 +13,7 @@ use window::Cursor;
 
 // A code is a register's offset, plus 0x100 for a write.
 pub fn decoded(code: u32) -> Access
-    ensures { result ≡ accessOf code }
+    ensures { result ≡ access_of code }
 {
     match code {
         0x000 => Access::Read(Register::Cr1),
@@ -40,7 +40,7 @@ pub fn decoded(code: u32) -> Access
 
 // The entry's number, from column 1 on.
 fn put_number(p: Cursor, n: u32, out: &mut [u8]) -> Cursor
-    ensures { laid result out.new ≡ emitOf (spelledOf 10 6 n ++ spaces 1) (laid p out.old) }
+    ensures { laid result out.new ≡ emit_of (spelled_of 10 6 n ++ spaces 1) (laid p out.old) }
 {
     let digits = numerals::last_six(n);
     let p = window::put_all(p, &digits, out);
@@ -49,7 +49,7 @@ fn put_number(p: Cursor, n: u32, out: &mut [u8]) -> Cursor
 
 // What was done, from column 8 on.
 fn put_done(p: Cursor, write: bool, out: &mut [u8]) -> Cursor
-    ensures { laid result out.new ≡ emitOf (filled 5 (done_of write) ++ spaces 1) (laid p out.old) }
+    ensures { laid result out.new ≡ emit_of (filled 5 (done_of write) ++ spaces 1) (laid p out.old) }
 {
     if write {
         window::put_all(p, b"write ", out)
@@ -60,7 +60,7 @@ fn put_done(p: Cursor, write: bool, out: &mut [u8]) -> Cursor
 
 // The register, from column 14 on.
 fn put_name(p: Cursor, r: Register, out: &mut [u8]) -> Cursor
-    ensures { laid result out.new ≡ emitOf (name_of r) (laid p out.old) }
+    ensures { laid result out.new ≡ emit_of (name_of r) (laid p out.old) }
 {
     match r {
         Register::Cr1 => window::put_all(p, b"CR1     ", out),
@@ -77,7 +77,7 @@ fn put_name(p: Cursor, r: Register, out: &mut [u8]) -> Cursor
 
 // The columns 1 to 29.
 fn put_head(p: Cursor, n: u32, write: bool, r: Register, value: u32, out: &mut [u8]) -> Cursor
-    ensures { laid result out.new ≡ emitOf (head_of n (done_of write) r value) (laid p out.old) }
+    ensures { laid result out.new ≡ emit_of (head_of n (done_of write) r value) (laid p out.old) }
 {
     let p = put_number(p, n, out);
     let p = put_done(p, write, out);
@@ -87,7 +87,7 @@ fn put_head(p: Cursor, n: u32, write: bool, r: Register, value: u32, out: &mut [
 }
 
 fn put_lines(p: Cursor, n: u32, write: bool, r: Register, value: u32, out: &mut [u8]) -> Cursor
-    ensures { laid result out.new ≡ emitOf (text_of (registerLines n (done_of write) r value)) (laid p out.old) }
+    ensures { laid result out.new ≡ emit_of (text_of (register_lines n (done_of write) r value)) (laid p out.old) }
 {
     let place = put_head(p, n, write, r, value, out);
     let line = Line {
@@ -101,7 +101,7 @@ fn put_lines(p: Cursor, n: u32, write: bool, r: Register, value: u32, out: &mut 
 }
 
 fn put_access(p: Cursor, n: u32, a: Access, value: u32, out: &mut [u8]) -> Cursor
-    ensures { laid result out.new ≡ emitOf (text_of (accessLines n a value)) (laid p out.old) }
+    ensures { laid result out.new ≡ emit_of (text_of (access_lines n a value)) (laid p out.old) }
 {
     match a {
         Access::Read(r) => put_lines(p, n, false, r, value, out),
@@ -112,14 +112,14 @@ fn put_access(p: Cursor, n: u32, a: Access, value: u32, out: &mut [u8]) -> Curso
 
 // Entry n. This is the one walk over an entry: its size is found by it too.
 pub fn put_entry(p: Cursor, n: u32, code: u32, value: u32, out: &mut [u8]) -> Cursor
-    ensures { laid result out.new ≡ emitOf (text_of (entryLines n code value)) (laid p out.old) }
+    ensures { laid result out.new ≡ emit_of (text_of (entry_lines n code value)) (laid p out.old) }
 {
     put_access(p, n, decoded(code), value, out)
 }
 
 // How many bytes the lines of an entry have: they are put before a window that they do not reach.
 pub fn size(n: u32, code: u32, value: u32) -> usize
-    ensures value { result ≡ length (text_of (entryLines n code value)) }
+    ensures value { result ≡ length (text_of (entry_lines n code value)) }
     ensures upper_bound { result ≤ 405 }
 {
     let mut nowhere = [0u8; 1];

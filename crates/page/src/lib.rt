@@ -1,8 +1,8 @@
 // The service page of a log: each entry on lines of 80 columns, with the names of its register and of its fields.
 ghost use Rattle.std.specs.Prelude.{◌≡◌, ◌%◌, ◌<◌};
-ghost use Rattle.page.specs.Page.{accessOf, isKnown, entriesText, page_of, faultFrom, faultOf, isSound, left, pageIn, pageRefusal, pageLength};
-ghost use Rattle.page.specs.Put.{sizeIn};
-ghost use Rattle.window.specs.Window.{laid, emitOf};
+ghost use Rattle.page.specs.Page.{access_of, is_known, entries_text, page_of, fault_from, fault_of, is_sound, left, page_in, page_refusal, page_length};
+ghost use Rattle.page.specs.Put.{size_in};
+ghost use Rattle.window.specs.Window.{laid, emit_of};
 ghost use Rattle.words.specs.Words.{words_in};
 
 use registers::Register;
@@ -38,7 +38,7 @@ pub enum Page {
 impl Page {
     // 0, or the number of the refusal.
     pub fn refusal(self) -> u32
-        ensures { result ≡ pageRefusal self }
+        ensures { result ≡ page_refusal self }
     {
         match self {
             Page::Laid(_) => 0,
@@ -48,7 +48,7 @@ impl Page {
 
     // How long the page is, 0 if it is refused.
     pub fn length(self) -> usize
-        ensures { result ≡ pageLength self }
+        ensures { result ≡ page_length self }
     {
         match self {
             Page::Laid(n) => n,
@@ -73,7 +73,7 @@ fn last_digits(n: u32) -> u32
 
 // Puts the lines of a log's entries, the first with the number `first`. One whose code is no register's has no line.
 pub fn put_entries(p: Cursor, first: u32, log: &[u32], out: &mut [u8]) -> Cursor
-    ensures { laid result out.new ≡ emitOf (entriesText first log.now) (laid p out.old) }
+    ensures { laid result out.new ≡ emit_of (entries_text first log.now) (laid p out.old) }
 {
     let mut q = p;
     let mut n = last_digits(first);
@@ -88,7 +88,7 @@ pub fn put_entries(p: Cursor, first: u32, log: &[u32], out: &mut [u8]) -> Cursor
 
 // The same for a log in bytes, from entry 1 on: its page.
 fn put_log(p: Cursor, log: &[u8], out: &mut [u8]) -> Cursor
-    ensures { laid result out.new ≡ emitOf (page_of (words_in log.now)) (laid p out.old) }
+    ensures { laid result out.new ≡ emit_of (page_of (words_in log.now)) (laid p out.old) }
 {
     let mut q = p;
     let mut n = last_digits(1);
@@ -102,7 +102,7 @@ fn put_log(p: Cursor, log: &[u8], out: &mut [u8]) -> Cursor
 }
 
 fn is_known(code: u32) -> bool
-    ensures { result ≡ isKnown (accessOf code) }
+    ensures { result ≡ is_known (access_of code) }
 {
     match entry::decoded(code) {
         Access::Read(_) => true,
@@ -113,7 +113,7 @@ fn is_known(code: u32) -> bool
 
 // What is wrong with a log in bytes.
 pub fn fault_in(log: &[u8]) -> Fault
-    ensures { result ≡ faultOf log.now }
+    ensures { result ≡ fault_of log.now }
 {
     if log.len() % 8 != 0 {
         return Fault::NotWhole;
@@ -131,7 +131,7 @@ pub fn fault_in(log: &[u8]) -> Fault
 }
 
 fn is_sound(f: Fault) -> bool
-    ensures { result ≡ isSound f }
+    ensures { result ≡ is_sound f }
 {
     match f {
         Fault::Nothing => true,
@@ -142,7 +142,7 @@ fn is_sound(f: Fault) -> bool
 
 // The size of a log's page, entry by entry, as long as there is room: so no sum can wrap.
 fn measured(log: &[u8], room: usize) -> Size
-    ensures { result ≡ sizeIn room (page_of (words_in log.now)) }
+    ensures { result ≡ size_in room (page_of (words_in log.now)) }
 {
     let mut left = room;
     let mut n = last_digits(1);
@@ -162,7 +162,7 @@ fn measured(log: &[u8], room: usize) -> Size
 // Lays the page of a log out at the start of `out`; the bytes after it stay. A log with a fault and a page that is longer than `out` are
 // refused, and then every byte stays.
 pub fn lay_out(log: &[u8], out: &mut [u8]) -> Page
-    ensures { left result out.new ≡ pageIn log.now out.old }
+    ensures { left result out.new ≡ page_in log.now out.old }
 {
     if !is_sound(fault_in(log)) {
         return Page::Refused;

@@ -1,10 +1,10 @@
 // A line of the page, on which tokens are put until one would pass column 80.
 ghost use Rattle.std.specs.Prelude.{◌≡◌, ◌++◌, ◌+◌, ◌≤◌, ◌<◌, length};
 ghost use Rattle.fields.specs.Field.{bit};
-ghost use Rattle.numerals.specs.Numbers.{decimalOf};
-ghost use Rattle.page.specs.Put.{asPut, ending, roomPut, tokenPut, tokensPut, bitsPut, flagPut, numberPut};
-ghost use Rattle.page.specs.Tokens.{flagTokens};
-ghost use Rattle.window.specs.Window.{laid, emitOf};
+ghost use Rattle.numerals.specs.Numbers.{decimal_of};
+ghost use Rattle.page.specs.Put.{as_put, ending, room_put, token_put, tokens_put, bits_put, flag_put, number_put};
+ghost use Rattle.page.specs.Tokens.{flag_tokens};
+ghost use Rattle.window.specs.Window.{laid, emit_of};
 
 use window::Cursor;
 
@@ -31,7 +31,7 @@ fn shown_to(l: Line, top: u32) -> Line
 // Spaces up to column 80, and a line feed.
 pub fn end_line(p: Cursor, column: usize, out: &mut [u8]) -> Cursor
     requires { column ≤ 80 }
-    ensures { laid result out.new ≡ emitOf (ending column) (laid p out.old) }
+    ensures { laid result out.new ≡ emit_of (ending column) (laid p out.old) }
 {
     let p = window::put_repeated(p, b' ', 80 - column, out);
     window::put_all(p, b"\n", out)
@@ -40,7 +40,7 @@ pub fn end_line(p: Cursor, column: usize, out: &mut [u8]) -> Cursor
 // Room for a space and a token of n characters: on the line, or from column 30 of the next one on.
 fn make_room(l: Line, n: usize, out: &mut [u8]) -> Line
     requires { (l.column ≤ 80) × (n ≤ 50) }
-    ensures out_after { asPut result out.new ≡ roomPut n (asPut l out.old) }
+    ensures out_after { as_put result out.new ≡ room_put n (as_put l out.old) }
     ensures n_bound { result.column + (1 + n) ≤ 80 }
 {
     if l.column + (1 + n) <= 80 {
@@ -58,7 +58,7 @@ fn make_room(l: Line, n: usize, out: &mut [u8]) -> Line
 // A token, which is a name and a number's digits.
 fn put_token(l: Line, name: &[u8], digits: &[u8], out: &mut [u8]) -> Line
     requires { (l.column ≤ 80) × (length name.now ≤ 20) × (length digits.now ≤ 20) }
-    ensures out_after { asPut result out.new ≡ tokenPut (name.now ++ digits.now) (asPut l out.old) }
+    ensures out_after { as_put result out.new ≡ token_put (name.now ++ digits.now) (as_put l out.old) }
     ensures column_bound { result.column ≤ 80 }
 {
     let n = name.len() + digits.len();
@@ -76,7 +76,7 @@ fn put_token(l: Line, name: &[u8], digits: &[u8], out: &mut [u8]) -> Line
 // A name and digits, if a bit is set.
 fn put_if(l: Line, value: u32, at: u32, name: &[u8], digits: &[u8], out: &mut [u8]) -> Line
     requires { (l.column ≤ 80) × (length name.now ≤ 20) × (length digits.now ≤ 20) }
-    ensures out_after { asPut result out.new ≡ tokensPut (flagTokens value (name.now ++ digits.now) (bit at)) (asPut l out.old) }
+    ensures out_after { as_put result out.new ≡ tokens_put (flag_tokens value (name.now ++ digits.now) (bit at)) (as_put l out.old) }
     ensures column_bound { result.column ≤ 80 }
 {
     if fields::flag(value, at) {
@@ -88,7 +88,7 @@ fn put_if(l: Line, value: u32, at: u32, name: &[u8], digits: &[u8], out: &mut [u
 // The bits of no field from the last one shown down to bit `low`.
 pub fn put_bits(l: Line, value: u32, low: u32, out: &mut [u8]) -> Line
     requires { l.column ≤ 80 }
-    ensures out_after { asPut result out.new ≡ bitsPut value low (asPut l out.old) }
+    ensures out_after { as_put result out.new ≡ bits_put value low (as_put l out.old) }
     ensures column_bound { result.column ≤ 80 }
 {
     let mut line = l;
@@ -111,7 +111,7 @@ pub fn put_bits(l: Line, value: u32, low: u32, out: &mut [u8]) -> Line
 // A field of one bit, after the bits above it.
 pub fn put_flag(l: Line, value: u32, at: u32, name: &[u8], out: &mut [u8]) -> Line
     requires { (l.column ≤ 80) × (at < 32) × (length name.now ≤ 20) }
-    ensures out_after { asPut result out.new ≡ flagPut value name.now at (asPut l out.old) }
+    ensures out_after { as_put result out.new ≡ flag_put value name.now at (as_put l out.old) }
     ensures column_bound { result.column ≤ 80 }
 {
     let l = put_bits(l, value, at + 1, out);
@@ -122,7 +122,7 @@ pub fn put_flag(l: Line, value: u32, at: u32, name: &[u8], out: &mut [u8]) -> Li
 // A wider field, after the bits above it: its label is its name and `=`.
 pub fn put_number(l: Line, value: u32, at: u32, width: u32, label: &[u8], out: &mut [u8]) -> Line
     requires { (l.column ≤ 80) × (at < 32) × (width < 32) × (length label.now ≤ 20) }
-    ensures out_after { asPut result out.new ≡ numberPut value label.now at width (asPut l out.old) }
+    ensures out_after { as_put result out.new ≡ number_put value label.now at width (as_put l out.old) }
     ensures column_bound { result.column ≤ 80 }
 {
     let l = put_bits(l, value, at + width, out);

@@ -1,6 +1,6 @@
 // The fields of each register, from the top bit down.
 ghost use Rattle.std.specs.Prelude.{◌≡◌, ◌≤◌};
-ghost use Rattle.page.specs.Put.{asPut, labelled, number_in, fieldsIn, labelsOf, fieldPut, fieldsPut};
+ghost use Rattle.page.specs.Put.{as_put, labelled, number_in, fields_in, labels_of, field_put, fields_put};
 
 use crate::line::{Line, put_bits, put_flag, put_number};
 use numerals::Parsed;
@@ -19,7 +19,7 @@ fn number(s: &[u8]) -> u32
 // A field by its lowest bit, its width and its label.
 fn put_field(l: Line, value: u32, at: u32, width: u32, label: &[u8], out: &mut [u8]) -> Line
     requires { l.column ≤ 80 }
-    ensures out_after { asPut result out.new ≡ fieldPut value (labelled at width label.now) (asPut l out.old) }
+    ensures out_after { as_put result out.new ≡ field_put value (labelled at width label.now) (as_put l out.old) }
     ensures column_bound { result.column ≤ 80 }
 {
     if 32 <= at {
@@ -40,7 +40,7 @@ fn put_field(l: Line, value: u32, at: u32, width: u32, label: &[u8], out: &mut [
 // The n fields that `layout` tells, and the bits below the last.
 fn put_fields(l: Line, value: u32, n: u32, layout: &[u8], out: &mut [u8]) -> Line
     requires { l.column ≤ 80 }
-    ensures out_after { asPut result out.new ≡ fieldsPut value (fieldsIn n layout.now) (asPut l out.old) }
+    ensures out_after { as_put result out.new ≡ fields_put value (fields_in n layout.now) (as_put l out.old) }
     ensures column_bound { result.column ≤ 80 }
 {
     let mut line = l;
@@ -66,7 +66,7 @@ fn put_fields(l: Line, value: u32, n: u32, layout: &[u8], out: &mut [u8]) -> Lin
 // The fields of a register, each by its lowest bit, its width and its label, which ends in `=` where a number follows.
 pub fn put_register(l: Line, r: Register, value: u32, out: &mut [u8]) -> Line
     requires { l.column ≤ 80 }
-    ensures out_after { asPut result out.new ≡ fieldsPut value (labelsOf r) (asPut l out.old) }
+    ensures out_after { as_put result out.new ≡ fields_put value (labels_of r) (as_put l out.old) }
     ensures column_bound { result.column ≤ 80 }
 {
     match r {

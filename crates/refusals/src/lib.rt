@@ -1,8 +1,8 @@
 // Document 01's table of refusals, rows 12, 8, 10 and 11: the first that fits is given. A row's tests are cheap, and
 // `&` and `|` take them all; only the operation list is left alone where the call is no transaction.
 ghost use Rattle.std.specs.Prelude.{◌≡◌, ◌≤◌, length};
-ghost use Rattle.calls.specs.Refusals.{noSuchListenKind, noConfiguration, noSuchCall, tooWide, secondaryWide, maskWide, configWide, addressWide, strangeBits, bufferWrong, requestOf, verdictOf, checkOf};
-ghost use Rattle.refusals.specs.Rows.{surveyOf, bufferVerdict, listVerdict};
+ghost use Rattle.calls.specs.Refusals.{no_such_listen_kind, no_configuration, no_such_call, too_wide, secondary_wide, mask_wide, config_wide, address_wide, strange_bits, buffer_wrong, request_of, verdict_of, check_of};
+ghost use Rattle.refusals.specs.Rows.{survey_of, buffer_verdict, list_verdict};
 
 use calls::{
     AddressMode, Call, Configuration, Description, Lookup, MaskBits, Refusal, SecondaryAddress,
@@ -12,14 +12,14 @@ use kinds::{call, operation};
 
 // 12, no such call: calls 4 and 5 name one of three listen kinds, and 2 and 3 have a configuration.
 fn is_no_listen_kind(c: Call, d: Description) -> bool
-    ensures { result ≡ noSuchListenKind c d }
+    ensures { result ≡ no_such_listen_kind c d }
 {
     (call::is_call(c, Call::EnableTargetEvent) | call::is_call(c, Call::DisableTargetEvent))
         & (d.listen > 2)
 }
 
 fn is_no_configuration(c: Call, d: Description) -> bool
-    ensures { result ≡ noConfiguration c d }
+    ensures { result ≡ no_configuration c d }
 {
     let config = d.config;
     (call::is_call(c, Call::TargetNew) | call::is_call(c, Call::ConfigureTargetAddresses))
@@ -27,14 +27,14 @@ fn is_no_configuration(c: Call, d: Description) -> bool
 }
 
 fn is_no_such_call(c: Call, d: Description) -> bool
-    ensures { result ≡ noSuchCall c d }
+    ensures { result ≡ no_such_call c d }
 {
     is_no_listen_kind(c, d) | is_no_configuration(c, d)
 }
 
 // 8, address: each in its seven or ten bits, and a mask of at most six.
 fn is_too_wide(mode: AddressMode, address: u32) -> bool
-    ensures { result ≡ tooWide mode address }
+    ensures { result ≡ too_wide mode address }
 {
     match mode {
         AddressMode::AddressMode7bit => address > 127,
@@ -43,7 +43,7 @@ fn is_too_wide(mode: AddressMode, address: u32) -> bool
 }
 
 fn is_secondary_wide(secondary: SecondaryAddress) -> bool
-    ensures { result ≡ secondaryWide secondary }
+    ensures { result ≡ secondary_wide secondary }
 {
     match secondary {
         SecondaryAddress::NoSecondary => false,
@@ -52,7 +52,7 @@ fn is_secondary_wide(secondary: SecondaryAddress) -> bool
 }
 
 fn is_mask_wide(mask: MaskBits) -> bool
-    ensures { result ≡ maskWide mask }
+    ensures { result ≡ mask_wide mask }
 {
     match mask {
         MaskBits::Unmasked => false,
@@ -61,7 +61,7 @@ fn is_mask_wide(mask: MaskBits) -> bool
 }
 
 fn is_config_wide(config: Configuration) -> bool
-    ensures { result ≡ configWide config }
+    ensures { result ≡ config_wide config }
 {
     match config {
         Configuration::Unconfigured => false,
@@ -75,7 +75,7 @@ fn is_config_wide(config: Configuration) -> bool
 }
 
 fn is_address_wide(c: Call, d: Description) -> bool
-    ensures { result ≡ addressWide c d }
+    ensures { result ≡ address_wide c d }
 {
     let mode = d.mode;
     let config = d.config;
@@ -88,7 +88,7 @@ fn is_address_wide(c: Call, d: Description) -> bool
 
 // 10, list: at most 64 operations, without strange bits, that make up the buffer.
 fn is_strange(o: u32) -> bool
-    ensures { result ≡ strangeBits o }
+    ensures { result ≡ strange_bits o }
 {
     fields::get(o, 17, 15) != 0
 }
@@ -104,7 +104,7 @@ struct Survey {
 // not overflow.
 fn survey_of(ops: &[u32]) -> Survey
     requires { length ops.now ≤ 64 }
-    ensures { result ≡ surveyOf ops.now }
+    ensures { result ≡ survey_of ops.now }
 {
     let mut strange = false;
     let mut total: u32 = 0;
@@ -118,14 +118,14 @@ fn survey_of(ops: &[u32]) -> Survey
 
 // 11, buffer: an AutoAck transfer moves a byte, and sixteen bits count the bytes.
 fn is_buffer_wrong(c: Call, n: usize) -> bool
-    ensures { result ≡ bufferWrong c n }
+    ensures { result ≡ buffer_wrong c n }
 {
     ((call::moves_bytes(c) & !call::is_manual(c)) & (n == 0)) | (n > 65535)
 }
 
 // The verdict on a listed call, by the rows in their order: here from 11 on.
 fn buffer_verdict(c: Call, n: usize) -> Verdict
-    ensures { result ≡ bufferVerdict c n }
+    ensures { result ≡ buffer_verdict c n }
 {
     if is_buffer_wrong(c, n) {
         return Verdict::Refused(Refusal::Buffer);
@@ -135,7 +135,7 @@ fn buffer_verdict(c: Call, n: usize) -> Verdict
 
 // From 10 on. Only a transaction's list is looked at, and one of more than 64 operations is not gone through.
 fn list_verdict(c: Call, ops: &[u32], n: usize) -> Verdict
-    ensures { result ≡ listVerdict c ops.now n }
+    ensures { result ≡ list_verdict c ops.now n }
 {
     if !call::is_transaction(c) {
         return buffer_verdict(c, n);
@@ -151,7 +151,7 @@ fn list_verdict(c: Call, ops: &[u32], n: usize) -> Verdict
 }
 
 fn verdict(c: Call, d: Description, ops: &[u32], n: usize) -> Verdict
-    ensures { result ≡ verdictOf (requestOf c d ops.now n) }
+    ensures { result ≡ verdict_of (request_of c d ops.now n) }
 {
     if is_no_such_call(c, d) {
         return Verdict::Refused(Refusal::NoSuchCall);
@@ -164,7 +164,7 @@ fn verdict(c: Call, d: Description, ops: &[u32], n: usize) -> Verdict
 
 // What begin and advance both look at; n is the lent buffer's length.
 pub fn check(d: Description, ops: &[u32], n: usize) -> Verdict
-    ensures { result ≡ checkOf d ops.now n }
+    ensures { result ≡ check_of d ops.now n }
 {
     let l = call::lookup(d.call);
     match l {

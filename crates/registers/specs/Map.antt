@@ -15,13 +15,13 @@ offset_of Rxdr = 0x24
 offset_of Txdr = 0x28
 
 -- Only ISR's is not 0: after a reset the transmit register is empty, so TXE is 1.
-abbrev pub resetOf : Register → ℕ
-resetOf Cr1 = 0
-resetOf Cr2 = 0
-resetOf Oar1 = 0
-resetOf Oar2 = 0
-resetOf Timingr = 0
-resetOf Isr = 1
-resetOf Icr = 0
-resetOf Rxdr = 0
-resetOf Txdr = 0
+abbrev pub reset_of : Register → ℕ
+reset_of Cr1 = 0
+reset_of Cr2 = 0
+reset_of Oar1 = 0
+reset_of Oar2 = 0
+reset_of Timingr = 0
+reset_of Isr = 1
+reset_of Icr = 0
+reset_of Rxdr = 0
+reset_of Txdr = 0

@@ -1,10 +1,10 @@
 // The nine I2C registers of RM0492: a type for each around its word, with its offset, its reset value, and the fields that
 // the driver reads and writes. A getter reads a field of the word, a setter gives the word with the field replaced.
 ghost use Rattle.std.specs.Prelude.{◌≡◌};
-ghost use Rattle.fields.specs.Field.{getOf, put_of, flagOf, mark_of};
-ghost use Rattle.registers.specs.Map.{offset_of, resetOf};
-ghost use Rattle.registers.specs.Addresses.{sevenBitOwn, tenBitOwn, secondary, masked};
-ghost use Rattle.registers.specs.Places.{CR1-GCEN, CR1-SBC, CR1-ANFOFF, CR1-PE, CR2-AUTOEND, CR2-RELOAD, CR2-NBYTES, CR2-NACK, CR2-START, CR2-HEAD10R, CR2-ADD10, CR2-RD-WRN, CR2-SADD, OAR1-OA1EN, OAR1-OA1MODE, OAR1-OA1, OAR2-OA2EN, OAR2-OA2MSK, OAR2-OA2, TIMINGR-PRESC, TIMINGR-SCLDEL, TIMINGR-SDADEL, TIMINGR-SCLH, TIMINGR-SCLL, ISR-ADDCODE, ISR-DIR, ISR-ARLO, ISR-BERR, ISR-TCR, ISR-TC, ISR-STOPF, ISR-NACKF, ISR-ADDR, ISR-RXNE, ISR-TXIS, ISR-TXE, ICR-ARLOCF, ICR-BERRCF, ICR-STOPCF, ICR-NACKCF, ICR-ADDRCF, RXDR-RXDATA, TXDR-TXDATA};
+ghost use Rattle.fields.specs.Field.{get_of, put_of, flag_of, mark_of};
+ghost use Rattle.registers.specs.Map.{offset_of, reset_of};
+ghost use Rattle.registers.specs.Addresses.{seven_bit_own, ten_bit_own, secondary, masked};
+ghost use Rattle.registers.specs.Places.{CR1_GCEN, CR1_SBC, CR1_ANFOFF, CR1_PE, CR2_AUTOEND, CR2_RELOAD, CR2_NBYTES, CR2_NACK, CR2_START, CR2_HEAD10R, CR2_ADD10, CR2_RD_WRN, CR2_SADD, OAR1_OA1EN, OAR1_OA1MODE, OAR1_OA1, OAR2_OA2EN, OAR2_OA2MSK, OAR2_OA2, TIMINGR_PRESC, TIMINGR_SCLDEL, TIMINGR_SDADEL, TIMINGR_SCLH, TIMINGR_SCLL, ISR_ADDCODE, ISR_DIR, ISR_ARLO, ISR_BERR, ISR_TCR, ISR_TC, ISR_STOPF, ISR_NACKF, ISR_ADDR, ISR_RXNE, ISR_TXIS, ISR_TXE, ICR_ARLOCF, ICR_BERRCF, ICR_STOPCF, ICR_NACKCF, ICR_ADDRCF, RXDR_RXDATA, TXDR_TXDATA};
 
 // Which register an access goes to.
 #[derive(Drop)]
@@ -39,7 +39,7 @@ impl Register {
 
     // What a plain write starts from.
     pub fn reset(self) -> u32
-        ensures { result ≡ resetOf self }
+        ensures { result ≡ reset_of self }
     {
         match self {
             Register::Cr1 => Cr1::RESET,
@@ -65,32 +65,32 @@ impl Cr1 {
     pub const RESET: u32 = 0;
 
     pub fn with_gcen(self, on: bool) -> Cr1
-        ensures { result.0 ≡ mark_of self.0 CR1-GCEN on }
+        ensures { result.0 ≡ mark_of self.0 CR1_GCEN on }
     {
         Cr1(fields::mark(self.0, 19, on))
     }
 
     pub fn with_sbc(self, on: bool) -> Cr1
-        ensures { result.0 ≡ mark_of self.0 CR1-SBC on }
+        ensures { result.0 ≡ mark_of self.0 CR1_SBC on }
     {
         Cr1(fields::mark(self.0, 16, on))
     }
 
     // 1 turns the analog noise filter off.
     pub fn with_anfoff(self, on: bool) -> Cr1
-        ensures { result.0 ≡ mark_of self.0 CR1-ANFOFF on }
+        ensures { result.0 ≡ mark_of self.0 CR1_ANFOFF on }
     {
         Cr1(fields::mark(self.0, 12, on))
     }
 
     pub fn pe(self) -> bool
-        ensures { result ≡ flagOf self.0 CR1-PE }
+        ensures { result ≡ flag_of self.0 CR1_PE }
     {
         fields::flag(self.0, 0)
     }
 
     pub fn with_pe(self, on: bool) -> Cr1
-        ensures { result.0 ≡ mark_of self.0 CR1-PE on }
+        ensures { result.0 ≡ mark_of self.0 CR1_PE on }
     {
         Cr1(fields::mark(self.0, 0, on))
     }
@@ -106,63 +106,63 @@ impl Cr2 {
     pub const RESET: u32 = 0;
 
     pub fn with_autoend(self, on: bool) -> Cr2
-        ensures { result.0 ≡ mark_of self.0 CR2-AUTOEND on }
+        ensures { result.0 ≡ mark_of self.0 CR2_AUTOEND on }
     {
         Cr2(fields::mark(self.0, 25, on))
     }
 
     pub fn with_reload(self, on: bool) -> Cr2
-        ensures { result.0 ≡ mark_of self.0 CR2-RELOAD on }
+        ensures { result.0 ≡ mark_of self.0 CR2_RELOAD on }
     {
         Cr2(fields::mark(self.0, 24, on))
     }
 
     pub fn with_nbytes(self, value: u32) -> Cr2
-        ensures { result.0 ≡ put_of self.0 CR2-NBYTES value }
+        ensures { result.0 ≡ put_of self.0 CR2_NBYTES value }
     {
         Cr2(fields::put(self.0, 16, 8, value))
     }
 
     pub fn with_nack(self, on: bool) -> Cr2
-        ensures { result.0 ≡ mark_of self.0 CR2-NACK on }
+        ensures { result.0 ≡ mark_of self.0 CR2_NACK on }
     {
         Cr2(fields::mark(self.0, 15, on))
     }
 
     pub fn start(self) -> bool
-        ensures { result ≡ flagOf self.0 CR2-START }
+        ensures { result ≡ flag_of self.0 CR2_START }
     {
         fields::flag(self.0, 13)
     }
 
     pub fn with_start(self, on: bool) -> Cr2
-        ensures { result.0 ≡ mark_of self.0 CR2-START on }
+        ensures { result.0 ≡ mark_of self.0 CR2_START on }
     {
         Cr2(fields::mark(self.0, 13, on))
     }
 
     // 1 sends only the header of a ten-bit address, for a read after a repeated start.
     pub fn with_head10r(self, on: bool) -> Cr2
-        ensures { result.0 ≡ mark_of self.0 CR2-HEAD10R on }
+        ensures { result.0 ≡ mark_of self.0 CR2_HEAD10R on }
     {
         Cr2(fields::mark(self.0, 12, on))
     }
 
     pub fn with_add10(self, on: bool) -> Cr2
-        ensures { result.0 ≡ mark_of self.0 CR2-ADD10 on }
+        ensures { result.0 ≡ mark_of self.0 CR2_ADD10 on }
     {
         Cr2(fields::mark(self.0, 11, on))
     }
 
     pub fn with_rd_wrn(self, on: bool) -> Cr2
-        ensures { result.0 ≡ mark_of self.0 CR2-RD-WRN on }
+        ensures { result.0 ≡ mark_of self.0 CR2_RD_WRN on }
     {
         Cr2(fields::mark(self.0, 10, on))
     }
 
     // Ten bits; an address of seven bits stands in bits 1 to 7.
     pub fn with_sadd(self, value: u32) -> Cr2
-        ensures { result.0 ≡ put_of self.0 CR2-SADD value }
+        ensures { result.0 ≡ put_of self.0 CR2_SADD value }
     {
         Cr2(fields::put(self.0, 0, 10, value))
     }
@@ -178,43 +178,43 @@ impl Oar1 {
     pub const RESET: u32 = 0;
 
     pub fn seven_bit(own: u32) -> Oar1
-        ensures { result.0 ≡ sevenBitOwn own }
+        ensures { result.0 ≡ seven_bit_own own }
     {
         Oar1(Oar1::RESET).with_oa1(own << 1)
     }
 
     pub fn ten_bit(own: u32) -> Oar1
-        ensures { result.0 ≡ tenBitOwn own }
+        ensures { result.0 ≡ ten_bit_own own }
     {
         Oar1(Oar1::RESET).with_oa1(own).with_oa1mode(true)
     }
 
     pub fn with_oa1en(self, on: bool) -> Oar1
-        ensures { result.0 ≡ mark_of self.0 OAR1-OA1EN on }
+        ensures { result.0 ≡ mark_of self.0 OAR1_OA1EN on }
     {
         Oar1(fields::mark(self.0, 15, on))
     }
 
     pub fn oa1mode(self) -> bool
-        ensures { result ≡ flagOf self.0 OAR1-OA1MODE }
+        ensures { result ≡ flag_of self.0 OAR1_OA1MODE }
     {
         fields::flag(self.0, 10)
     }
 
     pub fn with_oa1mode(self, on: bool) -> Oar1
-        ensures { result.0 ≡ mark_of self.0 OAR1-OA1MODE on }
+        ensures { result.0 ≡ mark_of self.0 OAR1_OA1MODE on }
     {
         Oar1(fields::mark(self.0, 10, on))
     }
 
     pub fn oa1(self) -> u32
-        ensures { result ≡ getOf self.0 OAR1-OA1 }
+        ensures { result ≡ get_of self.0 OAR1_OA1 }
     {
         fields::get(self.0, 0, 10)
     }
 
     pub fn with_oa1(self, value: u32) -> Oar1
-        ensures { result.0 ≡ put_of self.0 OAR1-OA1 value }
+        ensures { result.0 ≡ put_of self.0 OAR1_OA1 value }
     {
         Oar1(fields::put(self.0, 0, 10, value))
     }
@@ -243,20 +243,20 @@ impl Oar2 {
     }
 
     pub fn with_oa2en(self, on: bool) -> Oar2
-        ensures { result.0 ≡ mark_of self.0 OAR2-OA2EN on }
+        ensures { result.0 ≡ mark_of self.0 OAR2_OA2EN on }
     {
         Oar2(fields::mark(self.0, 15, on))
     }
 
     pub fn with_oa2msk(self, value: u32) -> Oar2
-        ensures { result.0 ≡ put_of self.0 OAR2-OA2MSK value }
+        ensures { result.0 ≡ put_of self.0 OAR2_OA2MSK value }
     {
         Oar2(fields::put(self.0, 8, 3, value))
     }
 
     // Seven bits from bit 1 on, so an address goes in unshifted.
     pub fn with_oa2(self, value: u32) -> Oar2
-        ensures { result.0 ≡ put_of self.0 OAR2-OA2 value }
+        ensures { result.0 ≡ put_of self.0 OAR2_OA2 value }
     {
         Oar2(fields::put(self.0, 1, 7, value))
     }
@@ -272,61 +272,61 @@ impl Timingr {
     pub const RESET: u32 = 0;
 
     pub fn presc(self) -> u8
-        ensures { result ≡ getOf self.0 TIMINGR-PRESC }
+        ensures { result ≡ get_of self.0 TIMINGR_PRESC }
     {
         fields::get_u8(self.0, 28, 4)
     }
 
     pub fn with_presc(self, value: u32) -> Timingr
-        ensures { result.0 ≡ put_of self.0 TIMINGR-PRESC value }
+        ensures { result.0 ≡ put_of self.0 TIMINGR_PRESC value }
     {
         Timingr(fields::put(self.0, 28, 4, value))
     }
 
     pub fn scldel(self) -> u8
-        ensures { result ≡ getOf self.0 TIMINGR-SCLDEL }
+        ensures { result ≡ get_of self.0 TIMINGR_SCLDEL }
     {
         fields::get_u8(self.0, 20, 4)
     }
 
     pub fn with_scldel(self, value: u32) -> Timingr
-        ensures { result.0 ≡ put_of self.0 TIMINGR-SCLDEL value }
+        ensures { result.0 ≡ put_of self.0 TIMINGR_SCLDEL value }
     {
         Timingr(fields::put(self.0, 20, 4, value))
     }
 
     pub fn sdadel(self) -> u8
-        ensures { result ≡ getOf self.0 TIMINGR-SDADEL }
+        ensures { result ≡ get_of self.0 TIMINGR_SDADEL }
     {
         fields::get_u8(self.0, 16, 4)
     }
 
     pub fn with_sdadel(self, value: u32) -> Timingr
-        ensures { result.0 ≡ put_of self.0 TIMINGR-SDADEL value }
+        ensures { result.0 ≡ put_of self.0 TIMINGR_SDADEL value }
     {
         Timingr(fields::put(self.0, 16, 4, value))
     }
 
     pub fn sclh(self) -> u8
-        ensures { result ≡ getOf self.0 TIMINGR-SCLH }
+        ensures { result ≡ get_of self.0 TIMINGR_SCLH }
     {
         fields::get_u8(self.0, 8, 8)
     }
 
     pub fn with_sclh(self, value: u32) -> Timingr
-        ensures { result.0 ≡ put_of self.0 TIMINGR-SCLH value }
+        ensures { result.0 ≡ put_of self.0 TIMINGR_SCLH value }
     {
         Timingr(fields::put(self.0, 8, 8, value))
     }
 
     pub fn scll(self) -> u8
-        ensures { result ≡ getOf self.0 TIMINGR-SCLL }
+        ensures { result ≡ get_of self.0 TIMINGR_SCLL }
     {
         fields::get_u8(self.0, 0, 8)
     }
 
     pub fn with_scll(self, value: u32) -> Timingr
-        ensures { result.0 ≡ put_of self.0 TIMINGR-SCLL value }
+        ensures { result.0 ≡ put_of self.0 TIMINGR_SCLL value }
     {
         Timingr(fields::put(self.0, 0, 8, value))
     }
@@ -342,82 +342,82 @@ impl Isr {
     pub const RESET: u32 = 1;
 
     pub fn addcode(self) -> u32
-        ensures { result ≡ getOf self.0 ISR-ADDCODE }
+        ensures { result ≡ get_of self.0 ISR_ADDCODE }
     {
         fields::get(self.0, 17, 7)
     }
 
     // 1: the controller reads, so the target transmits.
     pub fn dir(self) -> bool
-        ensures { result ≡ flagOf self.0 ISR-DIR }
+        ensures { result ≡ flag_of self.0 ISR_DIR }
     {
         fields::flag(self.0, 16)
     }
 
     pub fn arlo(self) -> bool
-        ensures { result ≡ flagOf self.0 ISR-ARLO }
+        ensures { result ≡ flag_of self.0 ISR_ARLO }
     {
         fields::flag(self.0, 9)
     }
 
     pub fn berr(self) -> bool
-        ensures { result ≡ flagOf self.0 ISR-BERR }
+        ensures { result ≡ flag_of self.0 ISR_BERR }
     {
         fields::flag(self.0, 8)
     }
 
     pub fn tcr(self) -> bool
-        ensures { result ≡ flagOf self.0 ISR-TCR }
+        ensures { result ≡ flag_of self.0 ISR_TCR }
     {
         fields::flag(self.0, 7)
     }
 
     pub fn tc(self) -> bool
-        ensures { result ≡ flagOf self.0 ISR-TC }
+        ensures { result ≡ flag_of self.0 ISR_TC }
     {
         fields::flag(self.0, 6)
     }
 
     pub fn stopf(self) -> bool
-        ensures { result ≡ flagOf self.0 ISR-STOPF }
+        ensures { result ≡ flag_of self.0 ISR_STOPF }
     {
         fields::flag(self.0, 5)
     }
 
     pub fn nackf(self) -> bool
-        ensures { result ≡ flagOf self.0 ISR-NACKF }
+        ensures { result ≡ flag_of self.0 ISR_NACKF }
     {
         fields::flag(self.0, 4)
     }
 
     pub fn addr(self) -> bool
-        ensures { result ≡ flagOf self.0 ISR-ADDR }
+        ensures { result ≡ flag_of self.0 ISR_ADDR }
     {
         fields::flag(self.0, 3)
     }
 
     pub fn rxne(self) -> bool
-        ensures { result ≡ flagOf self.0 ISR-RXNE }
+        ensures { result ≡ flag_of self.0 ISR_RXNE }
     {
         fields::flag(self.0, 2)
     }
 
     // 1: TXDR asks for a byte.
     pub fn txis(self) -> bool
-        ensures { result ≡ flagOf self.0 ISR-TXIS }
+        ensures { result ≡ flag_of self.0 ISR_TXIS }
     {
         fields::flag(self.0, 1)
     }
 
     // 1: TXDR is empty.
     pub fn txe(self) -> bool
-        ensures { result ≡ flagOf self.0 ISR-TXE }
+        ensures { result ≡ flag_of self.0 ISR_TXE }
     {
         fields::flag(self.0, 0)
     }
 
     pub fn with_txe(self, on: bool) -> Isr
-        ensures { result.0 ≡ mark_of self.0 ISR-TXE on }
+        ensures { result.0 ≡ mark_of self.0 ISR_TXE on }
     {
         Isr(fields::mark(self.0, 0, on))
     }
@@ -433,31 +433,31 @@ impl Icr {
     pub const RESET: u32 = 0;
 
     pub fn with_arlocf(self, on: bool) -> Icr
-        ensures { result.0 ≡ mark_of self.0 ICR-ARLOCF on }
+        ensures { result.0 ≡ mark_of self.0 ICR_ARLOCF on }
     {
         Icr(fields::mark(self.0, 9, on))
     }
 
     pub fn with_berrcf(self, on: bool) -> Icr
-        ensures { result.0 ≡ mark_of self.0 ICR-BERRCF on }
+        ensures { result.0 ≡ mark_of self.0 ICR_BERRCF on }
     {
         Icr(fields::mark(self.0, 8, on))
     }
 
     pub fn with_stopcf(self, on: bool) -> Icr
-        ensures { result.0 ≡ mark_of self.0 ICR-STOPCF on }
+        ensures { result.0 ≡ mark_of self.0 ICR_STOPCF on }
     {
         Icr(fields::mark(self.0, 5, on))
     }
 
     pub fn with_nackcf(self, on: bool) -> Icr
-        ensures { result.0 ≡ mark_of self.0 ICR-NACKCF on }
+        ensures { result.0 ≡ mark_of self.0 ICR_NACKCF on }
     {
         Icr(fields::mark(self.0, 4, on))
     }
 
     pub fn with_addrcf(self, on: bool) -> Icr
-        ensures { result.0 ≡ mark_of self.0 ICR-ADDRCF on }
+        ensures { result.0 ≡ mark_of self.0 ICR_ADDRCF on }
     {
         Icr(fields::mark(self.0, 3, on))
     }
@@ -473,7 +473,7 @@ impl Rxdr {
     pub const RESET: u32 = 0;
 
     pub fn rxdata(self) -> u8
-        ensures { result ≡ getOf self.0 RXDR-RXDATA }
+        ensures { result ≡ get_of self.0 RXDR_RXDATA }
     {
         fields::get_u8(self.0, 0, 8)
     }
@@ -489,7 +489,7 @@ impl Txdr {
     pub const RESET: u32 = 0;
 
     pub fn with_txdata(self, value: u32) -> Txdr
-        ensures { result.0 ≡ put_of self.0 TXDR-TXDATA value }
+        ensures { result.0 ≡ put_of self.0 TXDR_TXDATA value }
     {
         Txdr(fields::put(self.0, 0, 8, value))
     }

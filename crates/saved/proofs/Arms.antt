@@ -2,8 +2,8 @@
 use Prim.Native.Nat.{ℕ}
 use mathlib.Core.Path.{◌≡◌}
 use Rattle.calls.proofs.Logic.{arm}
-use Rattle.saved.specs.Saved.{outcomeAt}
+use Rattle.saved.specs.Saved.{outcome_at}
 use Rattle.saved.specs.declared.outcome.FoundOutcome.{FoundOutcome}
 
-pub outcome-arm : (n k v : ℕ) (r : FoundOutcome) → n ≡ k → r ≡ outcomeAt k v → r ≡ outcomeAt n v
-outcome-arm n k v r = arm (λ (i : ℕ). outcomeAt i v) n k r
+pub outcome_arm : (n k v : ℕ) (r : FoundOutcome) → n ≡ k → r ≡ outcome_at k v → r ≡ outcome_at n v
+outcome_arm n k v r = arm (λ (i : ℕ). outcome_at i v) n k r

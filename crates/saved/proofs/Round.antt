@@ -8,12 +8,12 @@ use lib.Dec.{T, eqb, eqb→eq, ltb, ltb→lt, lit<}
 use lib.ListN.{length}
 use borrow.Author.Tests.{eq-eqb}
 use Rattle.fields.proofs.Laws.{and_l, and_r}
-use Rattle.calls.proofs.Every.{is_eq, every-step}
-use Rattle.calls.proofs.Logic.{by-test, is_true}
+use Rattle.calls.proofs.Every.{is_eq, every_step}
+use Rattle.calls.proofs.Logic.{by_test, is_true}
 use Rattle.calls.specs.Bytes.{range}
-use Rattle.calls.specs.Outcomes.{outcomeNumber, outcomeValue}
-use Rattle.calls.specs.Run.{noCall}
-use Rattle.calls.specs.Steps.{stepNumber, steps, sameStep}
+use Rattle.calls.specs.Outcomes.{outcome_number, outcome_value}
+use Rattle.calls.specs.Run.{no_call}
+use Rattle.calls.specs.Steps.{step_number, steps, same_step}
 use Rattle.calls.specs.declared.Outcome.{Outcome}
 use Rattle.calls.specs.declared.Outcome.TheVariants.{Done, Bus, Arbitration, Nack, Stopped, ExpectedWrite, ExpectedRead, EventRead, EventWrite, EventStop}
 use Rattle.calls.specs.declared.SavedCall.{SavedCall}
@@ -21,7 +21,7 @@ use Rattle.calls.specs.declared.Step.{Step}
 use Rattle.words.specs.Words.{Below, words_in, word_at, bytes_of}
 use Rattle.words.proofs.Round.{words_back, whole_words}
 use Rattle.saved.specs.Range.{OfWords}
-use Rattle.saved.specs.Saved.{stepIn, stepAt, outcomeIn, outcomes, outcomeAt, outcomePlace, valuePlace, stepPlace, savedWords, savedCount, savedLength, savedBytes, isOutcome, isStep, isSaved, outcomeOf, step_of, savedWith, savedIn}
+use Rattle.saved.specs.Saved.{step_in, step_at, outcome_in, outcomes, outcome_at, outcome_place, value_place, step_place, saved_words, saved_count, saved_length, saved_bytes, is_outcome, is_step, is_saved, outcome_of, step_of, saved_with, saved_in}
 use Rattle.saved.specs.declared.outcome.FoundOutcome.{FoundOutcome}
 use Rattle.saved.specs.declared.outcome.FoundOutcome.TheVariants.{AnOutcome, NoOutcome}
 use Rattle.saved.specs.declared.step.FoundStep.{FoundStep}
@@ -29,131 +29,131 @@ use Rattle.saved.specs.declared.step.FoundStep.TheVariants.{AStep, NoStep}
 
 -- ---- steps
 abbrev found : Step → FoundStep → Bool
-found t (AStep u) = sameStep u t
+found t (AStep u) = same_step u t
 found t NoStep = false
 
 the_step : (t : Step) (f : FoundStep) → T (found t f) → f ≡ AStep t
 the_step t (AStep u) h = ap AStep (is_eq u t h)
 the_step t NoStep h = absurd h
 
-step_back : (t : Step) → stepAt (stepNumber t) ≡ AStep t
-unfolding stepAt
-step_back t = the_step t (stepAt (stepNumber t)) (every-step (λ u. found u (stepAt (stepNumber u))) tt t)
+step_back : (t : Step) → step_at (step_number t) ≡ AStep t
+unfolding step_at
+step_back t = the_step t (step_at (step_number t)) (every_step (λ u. found u (step_at (step_number u))) tt t)
 
 abbrev Numbered : ℕ → FoundStep → Type 0
-Numbered n (AStep t) = stepNumber t ≡ n
+Numbered n (AStep t) = step_number t ≡ n
 Numbered n NoStep = Unit {0}
 
-step_in : (ts : List Step) (n : ℕ) → Numbered n (stepIn ts n)
-step_in [] n = tt
-step_in (t ∷ ts) n =
-    by-test (Numbered n) (eqb n (stepNumber t)) (λ h. sym (eqb→eq n (stepNumber t) h)) (λ _. step_in ts n)
+step_in_holds : (ts : List Step) (n : ℕ) → Numbered n (step_in ts n)
+step_in_holds [] n = tt
+step_in_holds (t ∷ ts) n =
+    by_test (Numbered n) (eqb n (step_number t)) (λ h. sym (eqb→eq n (step_number t) h)) (λ _. step_in_holds ts n)
 
-number-back : (n : ℕ) → Numbered n (stepAt n)
-unfolding stepAt
-number-back n = step_in steps n
+number_back : (n : ℕ) → Numbered n (step_at n)
+unfolding step_at
+number_back n = step_in_holds steps n
 
 -- ---- outcomes
-outcome-back : (o : Outcome) → outcomeAt (outcomeNumber o) (outcomeValue o) ≡ AnOutcome o
-unfolding outcomeAt
-outcome-back (Done n) = rw (eq-eqb n n refl)
-outcome-back Bus = refl
-outcome-back Arbitration = refl
-outcome-back Nack = refl
-outcome-back Stopped = refl
-outcome-back ExpectedWrite = refl
-outcome-back ExpectedRead = refl
-outcome-back (EventRead n) = rw (eq-eqb n n refl)
-outcome-back (EventWrite n) = rw (eq-eqb n n refl)
-outcome-back EventStop = refl
+outcome_back : (o : Outcome) → outcome_at (outcome_number o) (outcome_value o) ≡ AnOutcome o
+unfolding outcome_at
+outcome_back (Done n) = rw (eq-eqb n n refl)
+outcome_back Bus = refl
+outcome_back Arbitration = refl
+outcome_back Nack = refl
+outcome_back Stopped = refl
+outcome_back ExpectedWrite = refl
+outcome_back ExpectedRead = refl
+outcome_back (EventRead n) = rw (eq-eqb n n refl)
+outcome_back (EventWrite n) = rw (eq-eqb n n refl)
+outcome_back EventStop = refl
 
 abbrev Valued : ℕ → ℕ → FoundOutcome → Type 0
-Valued n v (AnOutcome o) = (outcomeNumber o ≡ n) × (outcomeValue o ≡ v)
+Valued n v (AnOutcome o) = (outcome_number o ≡ n) × (outcome_value o ≡ v)
 Valued n v NoOutcome = Unit {0}
 
-outcome-in : (os : List Outcome) (n v : ℕ) → Valued n v (outcomeIn os n v)
-outcome-in [] n v = tt
-outcome-in (o ∷ os) n v =
-    by-test (Valued n v) (eqb n (outcomeNumber o))
+outcome_in_holds : (os : List Outcome) (n v : ℕ) → Valued n v (outcome_in os n v)
+outcome_in_holds [] n v = tt
+outcome_in_holds (o ∷ os) n v =
+    by_test (Valued n v) (eqb n (outcome_number o))
     (λ h.
-    by-test (Valued n v) (eqb v (outcomeValue o))
-    (λ g. (sym (eqb→eq n (outcomeNumber o) h), sym (eqb→eq v (outcomeValue o) g)))
+    by_test (Valued n v) (eqb v (outcome_value o))
+    (λ g. (sym (eqb→eq n (outcome_number o) h), sym (eqb→eq v (outcome_value o) g)))
     (λ _. tt))
-    (λ _. outcome-in os n v)
+    (λ _. outcome_in_holds os n v)
 
-value-back : (n v : ℕ) → Valued n v (outcomeAt n v)
-unfolding outcomeAt
-value-back n v = outcome-in (outcomes v) n v
+value_back : (n v : ℕ) → Valued n v (outcome_at n v)
+unfolding outcome_at
+value_back n v = outcome_in_holds (outcomes v) n v
 
 -- ---- saved calls
-number-below : (o : Outcome) → outcomeNumber o < 4294967296
-number-below (Done n) = lit< tt
-number-below Bus = lit< tt
-number-below Arbitration = lit< tt
-number-below Nack = lit< tt
-number-below Stopped = lit< tt
-number-below ExpectedWrite = lit< tt
-number-below ExpectedRead = lit< tt
-number-below (EventRead n) = lit< tt
-number-below (EventWrite n) = lit< tt
-number-below EventStop = lit< tt
+number_below : (o : Outcome) → outcome_number o < 4294967296
+number_below (Done n) = lit< tt
+number_below Bus = lit< tt
+number_below Arbitration = lit< tt
+number_below Nack = lit< tt
+number_below Stopped = lit< tt
+number_below ExpectedWrite = lit< tt
+number_below ExpectedRead = lit< tt
+number_below (EventRead n) = lit< tt
+number_below (EventWrite n) = lit< tt
+number_below EventStop = lit< tt
 
-step-below : (t : Step) → stepNumber t < 4294967296
-step-below t = ltb→lt (stepNumber t) 4294967296 (every-step (λ u. ltb (stepNumber u) 4294967296) tt t)
+step_below : (t : Step) → step_number t < 4294967296
+step_below t = ltb→lt (step_number t) 4294967296 (every_step (λ u. ltb (step_number u) 4294967296) tt t)
 
-words-below : (s : SavedCall) → OfWords s → Below 4294967296 (savedWords s)
-words-below s h = search (arith, number-below s.outcome, step-below s.step)
+words_below : (s : SavedCall) → OfWords s → Below 4294967296 (saved_words s)
+words_below s h = search (arith, number_below s.outcome, step_below s.step)
 
 -- reading what was written gives it back
-pub read-written : (s : SavedCall) → OfWords s → savedIn (savedBytes s) ≡ s
-unfolding savedIn savedBytes
-read-written s h =
-    let w = words_back (savedWords s) (words-below s h) in
-    rw (w, outcome-back s.outcome, step_back s.step, w)
+pub read_written : (s : SavedCall) → OfWords s → saved_in (saved_bytes s) ≡ s
+unfolding saved_in saved_bytes
+read_written s h =
+    let w = words_back (saved_words s) (words_below s h) in
+    rw (w, outcome_back s.outcome, step_back s.step, w)
 
 -- bytes of that length are their words by place
-by_place : (b : List ℕ) → length b ≡ savedLength → words_in b ≡ map (word_at b) (range 0 savedCount)
+by_place : (b : List ℕ) → length b ≡ saved_length → words_in b ≡ map (word_at b) (range 0 saved_count)
 unfolding words_in
 by_place b h = rw h
 
-read-words : (b : List ℕ) (f : FoundStep) (g : FoundOutcome) → T (isStep f && isOutcome g) →
-    Numbered (word_at b stepPlace) f → Valued (word_at b outcomePlace) (word_at b valuePlace) g →
-    savedWords (savedWith b f g) ≡ map (word_at b) (range 0 savedCount)
-read-words b (AStep t) (AnOutcome o) h p q = rw (p, q.0, q.1)
-read-words b (AStep t) NoOutcome h p q = absurd h
-read-words b NoStep g h p q = absurd h
+read_words : (b : List ℕ) (f : FoundStep) (g : FoundOutcome) → T (is_step f && is_outcome g) →
+    Numbered (word_at b step_place) f → Valued (word_at b outcome_place) (word_at b value_place) g →
+    saved_words (saved_with b f g) ≡ map (word_at b) (range 0 saved_count)
+read_words b (AStep t) (AnOutcome o) h p q = rw (p, q.0, q.1)
+read_words b (AStep t) NoOutcome h p q = absurd h
+read_words b NoStep g h p q = absurd h
 
 -- writing what was read gives the bytes back
-pub written_read : (b : List ℕ) → T (isSaved b) → Below 256 b → savedBytes (savedIn b) ≡ b
-unfolding isSaved savedIn savedBytes
+pub written_read : (b : List ℕ) → T (is_saved b) → Below 256 b → saved_bytes (saved_in b) ≡ b
+unfolding is_saved saved_in saved_bytes
 written_read b h u =
-    let l : length b ≡ savedLength = eqb→eq (length b) savedLength (and_l (eqb (length b) savedLength) _ h) in
-    let w = and_r (eqb (length b) savedLength) (isStep (step_of b) && isOutcome (outcomeOf b)) h in
-    let f = read-words b (step_of b) (outcomeOf b) w (number-back _) (value-back _ _) in
-    rw (eq-eqb (length b) savedLength l) (ap bytes_of (f ∙ sym (by_place b l)) ∙ whole_words savedCount b l u)
+    let l : length b ≡ saved_length = eqb→eq (length b) saved_length (and_l (eqb (length b) saved_length) _ h) in
+    let w = and_r (eqb (length b) saved_length) (is_step (step_of b) && is_outcome (outcome_of b)) h in
+    let f = read_words b (step_of b) (outcome_of b) w (number_back _) (value_back _ _) in
+    rw (eq-eqb (length b) saved_length l) (ap bytes_of (f ∙ sym (by_place b l)) ∙ whole_words saved_count b l u)
 
 -- so two saved calls are never written the same
-pub same_bytes : (s t : SavedCall) → OfWords s → OfWords t → savedBytes s ≡ savedBytes t → s ≡ t
-same_bytes s t h g e = sym (read-written s h) ∙ ap savedIn e ∙ read-written t g
+pub same_bytes : (s t : SavedCall) → OfWords s → OfWords t → saved_bytes s ≡ saved_bytes t → s ≡ t
+same_bytes s t h g e = sym (read_written s h) ∙ ap saved_in e ∙ read_written t g
 
 -- and no two strings of bytes are the same one
-pub same-saved : (a b : List ℕ) → T (isSaved a) → T (isSaved b) → Below 256 a → Below 256 b → savedIn a ≡ savedIn b → a ≡ b
-same-saved a b h g u w e = sym (written_read a h u) ∙ ap savedBytes e ∙ written_read b g w
+pub same_saved : (a b : List ℕ) → T (is_saved a) → T (is_saved b) → Below 256 a → Below 256 b → saved_in a ≡ saved_in b → a ≡ b
+same_saved a b h g u w e = sym (written_read a h u) ∙ ap saved_bytes e ∙ written_read b g w
 
 -- what was written is a saved call
-pub written-saved : (s : SavedCall) → OfWords s → T (isSaved (savedBytes s))
-unfolding isSaved savedBytes
-written-saved s h = rw (words_back (savedWords s) (words-below s h), outcome-back s.outcome, step_back s.step) tt
+pub written_saved : (s : SavedCall) → OfWords s → T (is_saved (saved_bytes s))
+unfolding is_saved saved_bytes
+written_saved s h = rw (words_back (saved_words s) (words_below s h), outcome_back s.outcome, step_back s.step) tt
 
 -- and bytes that are none are read as what no advance takes
-no-parts : (b : List ℕ) (f : FoundStep) (g : FoundOutcome) → T (not (isStep f && isOutcome g)) → savedWith b f g ≡ noCall
-no-parts b (AStep t) (AnOutcome o) h = absurd h
-no-parts b (AStep t) NoOutcome h = refl
-no-parts b NoStep g h = refl
+no_parts : (b : List ℕ) (f : FoundStep) (g : FoundOutcome) → T (not (is_step f && is_outcome g)) → saved_with b f g ≡ no_call
+no_parts b (AStep t) (AnOutcome o) h = absurd h
+no_parts b (AStep t) NoOutcome h = refl
+no_parts b NoStep g h = refl
 
-pub none_read : (b : List ℕ) → T (not (isSaved b)) → savedIn b ≡ noCall
-unfolding isSaved savedIn
+pub none_read : (b : List ℕ) → T (not (is_saved b)) → saved_in b ≡ no_call
+unfolding is_saved saved_in
 none_read b h =
-    by-test (λ (s : SavedCall). s ≡ noCall) (eqb (length b) savedLength)
-    (λ l. no-parts b (step_of b) (outcomeOf b) (rw (is_true (eqb (length b) savedLength) l) at h))
+    by_test (λ (s : SavedCall). s ≡ no_call) (eqb (length b) saved_length)
+    (λ l. no_parts b (step_of b) (outcome_of b) (rw (is_true (eqb (length b) saved_length) l) at h))
     (λ _. refl)

@@ -2,7 +2,7 @@
 -- what one advance comes to. Assumes nothing.
 use Rattle.std.specs.Prelude.{ℕ, ◌<◌, List, T}
 use Rattle.calls.specs.Calls.{Request}
-use Rattle.calls.specs.Outcomes.{outcomeValue}
+use Rattle.calls.specs.Outcomes.{outcome_value}
 use Rattle.calls.specs.Refusals.{accepts}
 use Rattle.calls.specs.Run.{words_of, Run}
 use Rattle.calls.specs.declared.SavedCall.{SavedCall}
@@ -16,7 +16,7 @@ pub record OfWords (s : SavedCall) : Type 0 where
   pub out : s.out < 4294967296
   pub word : s.word < 4294967296
   pub accesses : s.accesses < 4294967296
-  pub value : outcomeValue s.outcome < 4294967296
+  pub value : outcome_value s.outcome < 4294967296
 
 -- row 13 takes the saved call s of the request q, its numbers are words, and the buffer's are bytes
 pub record InRange (q : Request) (s : SavedCall) (b : List ℕ) : Type 0 where

@@ -1,8 +1,8 @@
 -- The saved call as bytes: its words, little-endian, one after the other. Assumes nothing.
 use Rattle.std.specs.Prelude.{ℕ, ◌+◌, ◌*◌, Bool, true, false, cond, ◌&&◌, List, [], ◌∷◌, eqb, length}
-use Rattle.calls.specs.Outcomes.{outcomeNumber, outcomeValue}
-use Rattle.calls.specs.Run.{noCall}
-use Rattle.calls.specs.Steps.{stepNumber, steps}
+use Rattle.calls.specs.Outcomes.{outcome_number, outcome_value}
+use Rattle.calls.specs.Run.{no_call}
+use Rattle.calls.specs.Steps.{step_number, steps}
 use Rattle.calls.specs.declared.Outcome.{Outcome}
 use Rattle.calls.specs.declared.Outcome.TheVariants.{Done, Bus, Arbitration, Nack, Stopped, ExpectedWrite, ExpectedRead, EventRead, EventWrite, EventStop}
 use Rattle.calls.specs.declared.SavedCall.{SavedCall}
@@ -14,116 +14,116 @@ use Rattle.saved.specs.declared.step.FoundStep.{FoundStep}
 use Rattle.saved.specs.declared.step.FoundStep.TheVariants.{AStep, NoStep}
 
 -- ---- The step of a number
-abbrev pub stepIn : List Step → ℕ → FoundStep
-stepIn [] n = NoStep
-stepIn (t ∷ ts) n = cond (eqb n (stepNumber t)) (AStep t) (stepIn ts n)
+abbrev pub step_in : List Step → ℕ → FoundStep
+step_in [] n = NoStep
+step_in (t ∷ ts) n = cond (eqb n (step_number t)) (AStep t) (step_in ts n)
 
-unfoldable pub stepAt : ℕ → FoundStep
-stepAt n = stepIn steps n
+unfoldable pub step_at : ℕ → FoundStep
+step_at n = step_in steps n
 
 -- ---- The outcome of a number and a value. One that comes with nothing has the value 0.
 abbrev pub outcomes : ℕ → List Outcome
 outcomes v =
     Done v ∷ Bus ∷ Arbitration ∷ Nack ∷ Stopped ∷ ExpectedWrite ∷ ExpectedRead ∷ EventRead v ∷ EventWrite v ∷ EventStop ∷ []
 
-abbrev pub outcomeIn : List Outcome → ℕ → ℕ → FoundOutcome
-outcomeIn [] n v = NoOutcome
-outcomeIn (o ∷ os) n v = cond (eqb n (outcomeNumber o)) (cond (eqb v (outcomeValue o)) (AnOutcome o) NoOutcome) (outcomeIn os n v)
+abbrev pub outcome_in : List Outcome → ℕ → ℕ → FoundOutcome
+outcome_in [] n v = NoOutcome
+outcome_in (o ∷ os) n v = cond (eqb n (outcome_number o)) (cond (eqb v (outcome_value o)) (AnOutcome o) NoOutcome) (outcome_in os n v)
 
-unfoldable pub outcomeAt : ℕ → ℕ → FoundOutcome
-outcomeAt n v = outcomeIn (outcomes v) n v
+unfoldable pub outcome_at : ℕ → ℕ → FoundOutcome
+outcome_at n v = outcome_in (outcomes v) n v
 
 -- ---- The words of a saved call, and which word is which: each place follows the one before it
-abbrev pub callPlace : ℕ
-callPlace = 0
+abbrev pub call_place : ℕ
+call_place = 0
 
-abbrev pub piecePlace : ℕ
-piecePlace = callPlace + 1
+abbrev pub piece_place : ℕ
+piece_place = call_place + 1
 
-abbrev pub bytePlace : ℕ
-bytePlace = piecePlace + 1
+abbrev pub byte_place : ℕ
+byte_place = piece_place + 1
 
-abbrev pub wordPlace : ℕ
-wordPlace = bytePlace + 1
+abbrev pub word_place : ℕ
+word_place = byte_place + 1
 
-abbrev pub accessesPlace : ℕ
-accessesPlace = wordPlace + 1
+abbrev pub accesses_place : ℕ
+accesses_place = word_place + 1
 
-abbrev pub outcomePlace : ℕ
-outcomePlace = accessesPlace + 1
+abbrev pub outcome_place : ℕ
+outcome_place = accesses_place + 1
 
-abbrev pub valuePlace : ℕ
-valuePlace = outcomePlace + 1
+abbrev pub value_place : ℕ
+value_place = outcome_place + 1
 
-abbrev pub stepPlace : ℕ
-stepPlace = valuePlace + 1
+abbrev pub step_place : ℕ
+step_place = value_place + 1
 
-abbrev pub outPlace : ℕ
-outPlace = stepPlace + 1
+abbrev pub out_place : ℕ
+out_place = step_place + 1
 
-abbrev pub savedWords : SavedCall → List ℕ
-savedWords s =
+abbrev pub saved_words : SavedCall → List ℕ
+saved_words s =
     s.call
     ∷ s.piece
     ∷ s.byte
     ∷ s.word
     ∷ s.accesses
-    ∷ outcomeNumber s.outcome
-    ∷ outcomeValue s.outcome
-    ∷ stepNumber s.step
+    ∷ outcome_number s.outcome
+    ∷ outcome_value s.outcome
+    ∷ step_number s.step
     ∷ s.out
     ∷ []
 
 -- how many they are, and their length in bytes
-abbrev pub savedCount : ℕ
-savedCount = length (savedWords noCall)
+abbrev pub saved_count : ℕ
+saved_count = length (saved_words no_call)
 
-abbrev pub savedLength : ℕ
-savedLength = 4 * savedCount
+abbrev pub saved_length : ℕ
+saved_length = 4 * saved_count
 
-unfoldable pub savedBytes : SavedCall → List ℕ
-savedBytes s = bytes_of (savedWords s)
+unfoldable pub saved_bytes : SavedCall → List ℕ
+saved_bytes s = bytes_of (saved_words s)
 
 -- what a slice holds once s is written to it: one of another length is left as it is
-unfoldable pub writtenTo : List ℕ → SavedCall → List ℕ
-writtenTo bytes s = cond (eqb (length bytes) savedLength) (savedBytes s) bytes
+unfoldable pub written_to : List ℕ → SavedCall → List ℕ
+written_to bytes s = cond (eqb (length bytes) saved_length) (saved_bytes s) bytes
 
 -- ---- The saved call of bytes. Bytes of another length, without such an outcome or without such a step are none; they are
 -- read as what a refused begin hands out, which no advance takes.
-abbrev pub isStep : FoundStep → Bool
-isStep (AStep t) = true
-isStep NoStep = false
+abbrev pub is_step : FoundStep → Bool
+is_step (AStep t) = true
+is_step NoStep = false
 
-abbrev pub isOutcome : FoundOutcome → Bool
-isOutcome (AnOutcome o) = true
-isOutcome NoOutcome = false
+abbrev pub is_outcome : FoundOutcome → Bool
+is_outcome (AnOutcome o) = true
+is_outcome NoOutcome = false
 
 abbrev pub step_of : List ℕ → FoundStep
-step_of bytes = stepAt (word_at bytes stepPlace)
+step_of bytes = step_at (word_at bytes step_place)
 
-abbrev pub outcomeOf : List ℕ → FoundOutcome
-outcomeOf bytes = outcomeAt (word_at bytes outcomePlace) (word_at bytes valuePlace)
+abbrev pub outcome_of : List ℕ → FoundOutcome
+outcome_of bytes = outcome_at (word_at bytes outcome_place) (word_at bytes value_place)
 
-unfoldable pub isSaved : List ℕ → Bool
-isSaved bytes = eqb (length bytes) savedLength && (isStep (step_of bytes) && isOutcome (outcomeOf bytes))
+unfoldable pub is_saved : List ℕ → Bool
+is_saved bytes = eqb (length bytes) saved_length && (is_step (step_of bytes) && is_outcome (outcome_of bytes))
 
-abbrev pub savedAs : List ℕ → Step → Outcome → SavedCall
-savedAs bytes t o =
+abbrev pub saved_as : List ℕ → Step → Outcome → SavedCall
+saved_as bytes t o =
     record {
-      call = word_at bytes callPlace;
-      piece = word_at bytes piecePlace;
-      byte = word_at bytes bytePlace;
-      out = word_at bytes outPlace;
-      word = word_at bytes wordPlace;
-      accesses = word_at bytes accessesPlace;
+      call = word_at bytes call_place;
+      piece = word_at bytes piece_place;
+      byte = word_at bytes byte_place;
+      out = word_at bytes out_place;
+      word = word_at bytes word_place;
+      accesses = word_at bytes accesses_place;
       outcome = o;
       step = t;
     }
 
-abbrev pub savedWith : List ℕ → FoundStep → FoundOutcome → SavedCall
-savedWith bytes (AStep t) (AnOutcome o) = savedAs bytes t o
-savedWith bytes (AStep t) NoOutcome = noCall
-savedWith bytes NoStep o = noCall
+abbrev pub saved_with : List ℕ → FoundStep → FoundOutcome → SavedCall
+saved_with bytes (AStep t) (AnOutcome o) = saved_as bytes t o
+saved_with bytes (AStep t) NoOutcome = no_call
+saved_with bytes NoStep o = no_call
 
-unfoldable pub savedIn : List ℕ → SavedCall
-savedIn bytes = cond (eqb (length bytes) savedLength) (savedWith bytes (step_of bytes) (outcomeOf bytes)) noCall
+unfoldable pub saved_in : List ℕ → SavedCall
+saved_in bytes = cond (eqb (length bytes) saved_length) (saved_with bytes (step_of bytes) (outcome_of bytes)) no_call

@@ -1,6 +1,6 @@
 // The saved call as bytes, and back. Each function equals its definition in specs/.
 ghost use Rattle.std.specs.Prelude.{◌≡◌};
-ghost use Rattle.saved.specs.Saved.{step_of, outcomeOf, savedAs, savedWith, savedIn, writtenTo};
+ghost use Rattle.saved.specs.Saved.{step_of, outcome_of, saved_as, saved_with, saved_in, written_to};
 
 use calls::{Outcome, SavedCall, Step};
 use kinds::saved_call;
@@ -38,13 +38,13 @@ fn step_of(bytes: &[u8]) -> FoundStep
 }
 
 fn outcome_of(bytes: &[u8]) -> FoundOutcome
-    ensures { result ≡ outcomeOf bytes.now }
+    ensures { result ≡ outcome_of bytes.now }
 {
     outcome::outcome_at(words::get(bytes, OUTCOME), words::get(bytes, VALUE))
 }
 
 fn read_as(bytes: &[u8], step: Step, outcome: Outcome) -> SavedCall
-    ensures { result ≡ savedAs bytes.now step outcome }
+    ensures { result ≡ saved_as bytes.now step outcome }
 {
     SavedCall {
         call: words::get(bytes, CALL),
@@ -59,7 +59,7 @@ fn read_as(bytes: &[u8], step: Step, outcome: Outcome) -> SavedCall
 }
 
 fn read_with(bytes: &[u8], step: FoundStep, outcome: FoundOutcome) -> SavedCall
-    ensures { result ≡ savedWith bytes.now step outcome }
+    ensures { result ≡ saved_with bytes.now step outcome }
 {
     match step {
         FoundStep::AStep(t) => match outcome {
@@ -72,7 +72,7 @@ fn read_with(bytes: &[u8], step: FoundStep, outcome: FoundOutcome) -> SavedCall
 
 // The saved call that bytes are; what no advance takes, where they are none.
 pub fn read(bytes: &[u8]) -> SavedCall
-    ensures { result ≡ savedIn bytes.now }
+    ensures { result ≡ saved_in bytes.now }
 {
     if bytes.len() == LENGTH {
         return read_with(bytes, step_of(bytes), outcome_of(bytes));
@@ -82,7 +82,7 @@ pub fn read(bytes: &[u8]) -> SavedCall
 
 // Writes a saved call to bytes of that length, and nothing to others.
 pub fn write(s: SavedCall, bytes: &mut [u8])
-    ensures { bytes.new ≡ writtenTo bytes.old s }
+    ensures { bytes.new ≡ written_to bytes.old s }
 {
     if bytes.len() == LENGTH {
         let outcome = s.outcome;

@@ -1,6 +1,6 @@
 // The outcome of a number and a value.
 ghost use Rattle.std.specs.Prelude.{◌≡◌, cond, eqb};
-ghost use Rattle.saved.specs.Saved.{outcomeAt};
+ghost use Rattle.saved.specs.Saved.{outcome_at};
 
 use calls::Outcome;
 
@@ -21,7 +21,7 @@ fn without_value(o: Outcome, v: u32) -> FoundOutcome
 }
 
 pub fn outcome_at(n: u32, v: u32) -> FoundOutcome
-    ensures { result ≡ outcomeAt n v }
+    ensures { result ≡ outcome_at n v }
 {
     match n {
         0 => FoundOutcome::AnOutcome(Outcome::Done(v)),

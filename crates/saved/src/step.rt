@@ -1,7 +1,7 @@
 // A step's number, and the step of a number.
 ghost use Rattle.std.specs.Prelude.{◌≡◌, ◌≤◌};
-ghost use Rattle.calls.specs.Steps.{modifyNumber, stepNumber};
-ghost use Rattle.saved.specs.Saved.{stepAt};
+ghost use Rattle.calls.specs.Steps.{modify_number, step_number};
+ghost use Rattle.saved.specs.Saved.{step_at};
 
 use calls::{Modify, Step};
 
@@ -12,7 +12,7 @@ pub enum FoundStep {
 }
 
 fn modify_number(m: Modify) -> u32
-    ensures { (result ≡ modifyNumber m) × (result ≤ 9) }
+    ensures { (result ≡ modify_number m) × (result ≤ 9) }
 {
     match m {
         Modify::PeOff => 0,
@@ -29,7 +29,7 @@ fn modify_number(m: Modify) -> u32
 }
 
 pub fn step_number(t: Step) -> u32
-    ensures { result ≡ stepNumber t }
+    ensures { result ≡ step_number t }
 {
     match t {
         Step::Ended => 0,
@@ -64,7 +64,7 @@ pub fn step_number(t: Step) -> u32
 }
 
 pub fn step_at(n: u32) -> FoundStep
-    ensures { result ≡ stepAt n }
+    ensures { result ≡ step_at n }
 {
     match n {
         0 => FoundStep::AStep(Step::Ended),

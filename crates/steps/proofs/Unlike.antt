@@ -10,7 +10,7 @@ use denote.Enum.Declared.{tag_of}
 use Rattle.calls.proofs.Every.{is_eq}
 use Rattle.calls.proofs.Logic.{is_false}
 use Rattle.calls.specs.contracts.Step.{the_type}
-use Rattle.calls.specs.Steps.{steps, sameStep}
+use Rattle.calls.specs.Steps.{steps, same_step}
 use Rattle.calls.specs.declared.Step.{Step}
 
 -- the variants of the steps by their tags, each once, but for those in ks
@@ -22,6 +22,6 @@ abbrev pub others : Step → List ℕ
 others u = without (tag_of the_type u ∷ []) steps
 
 pub unlike : (u t : Step) (ks : List ℕ) → T (not (has_key ks (tag_of the_type u))) → OneOf ks (tag_of the_type t) →
-    false ≡ sameStep t u
+    false ≡ same_step t u
 unlike u t ks n h =
-    sym (is_false (sameStep t u) (not_T (sameStep t u) (λ x. miss ks (tag_of the_type u) n (rw (is_eq t u x) at h))))
+    sym (is_false (same_step t u) (not_T (same_step t u) (λ x. miss ks (tag_of the_type u) n (rw (is_eq t u x) at h))))

@@ -1,12 +1,12 @@
 // The saved call after each access, and the one that a call begins with: a function for each row of the definition.
 // `Small` bounds a saved call's counts, so that no sum of them overflows.
 ghost use Rattle.std.specs.Prelude.{◌≡◌, cond, not, ◌&&◌, ◌||◌, ltb, ◌+◌, ◌-◌, ◌≤◌, min};
-ghost use Rattle.fields.specs.Field.{flagOf};
-ghost use Rattle.registers.specs.Places.{ISR-STOPF, ISR-ADDR};
+ghost use Rattle.fields.specs.Field.{flag_of};
+ghost use Rattle.registers.specs.Places.{ISR_STOPF, ISR_ADDR};
 ghost use Rattle.calls.specs.Calls.{is_call, transaction, transmits};
-ghost use Rattle.calls.specs.Outcomes.{isDone, readdressed};
-ghost use Rattle.calls.specs.Pieces.{byteThere};
-ghost use Rattle.calls.specs.Steps.{errorOr, nackOr, failing, failOf, bytesPut, count_of, transferOver, notAcknowledged, entryStep, transferOf, eventOf, stopEvent, addressFound, tenBitHeader, findAddress, clearStep, addressEvent, eventIn, awaited, stopOr, goesIf, nextIf, waitAt, byteMoved, ownThen, writtenAt, effectAt, oneMore, applyOf, sameStep, counted, ownOr, found, noted, afterIn, start_at, beginAt};
+ghost use Rattle.calls.specs.Outcomes.{is_done, readdressed};
+ghost use Rattle.calls.specs.Pieces.{byte_there};
+ghost use Rattle.calls.specs.Steps.{error_or, nack_or, failing, fail_of, bytes_put, count_of, transfer_over, not_acknowledged, entry_step, transfer_of, event_of, stop_event, address_found, ten_bit_header, find_address, clear_step, address_event, event_in, awaited, stop_or, goes_if, next_if, wait_at, byte_moved, own_then, written_at, effect_at, one_more, apply_of, same_step, counted, own_or, found, noted, after_in, start_at, begin_at};
 ghost use Rattle.calls.specs.declared.Step.TheVariants.{Ended, StartControl, Wait, Byte, Address};
 ghost use Rattle.calls.specs.declared.Effect.TheVariants.{Goes};
 ghost use Rattle.calls.specs.declared.Call.TheVariants.{New, TargetNew, EnableTargetEvent, DisableTargetEvent, Reset};
@@ -18,7 +18,7 @@ use registers::{Cr1, Cr2, Isr, Oar1};
 
 // Errors come before all else that a status word says.
 fn error_or(a: u32, t: Effect) -> Effect
-    ensures { result ≡ errorOr a t }
+    ensures { result ≡ error_or a t }
 {
     if Isr(a).berr() {
         return Effect::Goes(Step::BusClear);
@@ -30,7 +30,7 @@ fn error_or(a: u32, t: Effect) -> Effect
 }
 
 fn nack_or(a: u32, t: Effect) -> Effect
-    ensures { result ≡ nackOr a t }
+    ensures { result ≡ nack_or a t }
 {
     if Isr(a).nackf() {
         return Effect::Goes(Step::NackClear);
@@ -47,7 +47,7 @@ fn is_failing(c: Call, s: SavedCall) -> bool
 }
 
 fn is_sound(c: Call, s: SavedCall) -> bool
-    ensures { result ≡ (transaction c && isDone s.outcome) }
+    ensures { result ≡ (transaction c && is_done s.outcome) }
 {
     let o = s.outcome;
     call::is_transaction(c) && outcome::is_done(o)
@@ -55,7 +55,7 @@ fn is_sound(c: Call, s: SavedCall) -> bool
 
 // A transaction keeps its first error until its stop; any other error ends a call at once.
 fn fail(c: Call, s: SavedCall, o: Outcome) -> Effect
-    ensures { result ≡ failOf c s o }
+    ensures { result ≡ fail_of c s o }
 {
     if is_sound(c, s) {
         return Effect::Fails(o);
@@ -74,7 +74,7 @@ fn less_one(n: u32) -> u32
 
 // A manual write carries how many bytes it has put out; an automatic one is one piece.
 fn bytes_put(c: Call, s: SavedCall) -> u32
-    ensures { result ≡ bytesPut c s }
+    ensures { result ≡ bytes_put c s }
 {
     if call::is_manual(c) {
         return s.out;
@@ -96,7 +96,7 @@ fn count(c: Call, s: SavedCall) -> u32
 // An automatic read sets NACK at its end.
 fn transfer_over(c: Call, s: SavedCall) -> Effect
     requires { Small s }
-    ensures { result ≡ transferOver c s }
+    ensures { result ≡ transfer_over c s }
 {
     if call::is_auto_receiver(c) {
         return Effect::Goes(Step::ModifyRead(Modify::NackSet));
@@ -106,7 +106,7 @@ fn transfer_over(c: Call, s: SavedCall) -> Effect
 
 fn not_acknowledged(c: Call, s: SavedCall) -> Effect
     requires { Small s }
-    ensures { result ≡ notAcknowledged c s }
+    ensures { result ≡ not_acknowledged c s }
 {
     if call::is_transaction(c) {
         return fail(c, s, Outcome::Nack);
@@ -116,7 +116,7 @@ fn not_acknowledged(c: Call, s: SavedCall) -> Effect
 
 // The first step of a piece.
 fn entry_step(c: Call) -> Step
-    ensures { result ≡ entryStep c }
+    ensures { result ≡ entry_step c }
 {
     if call::is_transaction(c) {
         return Step::Begin;
@@ -129,7 +129,7 @@ fn entry_step(c: Call) -> Step
 
 // From an event into the transfer, if there is any piece.
 fn transfer(c: Call, nonempty: bool) -> Effect
-    ensures { result ≡ transferOf c nonempty }
+    ensures { result ≡ transfer_of c nonempty }
 {
     if nonempty {
         return Effect::Enters(entry_step(c));
@@ -139,7 +139,7 @@ fn transfer(c: Call, nonempty: bool) -> Effect
 
 // What a complete event means to each call.
 fn event_over(c: Call, nonempty: bool, s: SavedCall) -> Effect
-    ensures { result ≡ eventOf c nonempty s }
+    ensures { result ≡ event_of c nonempty s }
 {
     let o = s.outcome;
     if call::is_wait_for_event(c) {
@@ -158,7 +158,7 @@ fn event_over(c: Call, nonempty: bool, s: SavedCall) -> Effect
 }
 
 fn stop_event(c: Call) -> Effect
-    ensures { result ≡ stopEvent c }
+    ensures { result ≡ stop_event c }
 {
     if call::is_wait_for_event(c) {
         return Effect::Ends(Outcome::EventStop);
@@ -171,7 +171,7 @@ fn stop_event(c: Call) -> Effect
 
 // ManualAck clears ADDR at once only if the controller reads; else byte control comes first.
 fn address_found(c: Call, nonempty: bool, s: SavedCall) -> Effect
-    ensures { result ≡ addressFound c nonempty s }
+    ensures { result ≡ address_found c nonempty s }
 {
     let o = s.outcome;
     if call::is_manual(c) {
@@ -184,14 +184,14 @@ fn address_found(c: Call, nonempty: bool, s: SavedCall) -> Effect
 }
 
 fn is_ten_bit_header(code: u32) -> bool
-    ensures { result ≡ tenBitHeader code }
+    ensures { result ≡ ten_bit_header code }
 {
     fields::get(code, 2, 5) == 30
 }
 
 // What may be an address of ten bits is looked up in OAR1.
 fn find_address(c: Call, nonempty: bool, s: SavedCall) -> Effect
-    ensures { result ≡ findAddress c nonempty s }
+    ensures { result ≡ find_address c nonempty s }
 {
     let o = s.outcome;
     if is_ten_bit_header(outcome::value(o)) {
@@ -201,7 +201,7 @@ fn find_address(c: Call, nonempty: bool, s: SavedCall) -> Effect
 }
 
 fn clear_step(c: Call) -> Step
-    ensures { result ≡ clearStep c }
+    ensures { result ≡ clear_step c }
 {
     if call::is_manual(c) {
         return Step::ModifyRead(Modify::SbcOff);
@@ -211,7 +211,7 @@ fn clear_step(c: Call) -> Step
 
 // A byte left in TXDR goes first.
 fn address_event(c: Call, a: u32, o: Outcome) -> Effect
-    ensures { result ≡ addressEvent c a o }
+    ensures { result ≡ address_event c a o }
 {
     if Isr(a).txe() {
         return Effect::Notes(o, clear_step(c));
@@ -221,7 +221,7 @@ fn address_event(c: Call, a: u32, o: Outcome) -> Effect
 
 // An address match, a stop, or nothing yet.
 fn event_in(c: Call, a: u32) -> Effect
-    ensures { result ≡ eventIn c a }
+    ensures { result ≡ event_in c a }
 {
     if Isr(a).addr() {
         if Isr(a).dir() {
@@ -246,7 +246,7 @@ pub fn byte_there(c: Call, byte: u32, size: u32, last: bool) -> bool
 }
 
 pub fn is_there(c: Call, v: View, s: SavedCall) -> bool
-    ensures { result ≡ byteThere c v s }
+    ensures { result ≡ byte_there c v s }
 {
     byte_there(c, s.byte, v.size, v.last)
 }
@@ -277,14 +277,14 @@ fn flag_awaited(c: Call, v: View, s: SavedCall) -> Flag
 
 // A target's transfer is over where a stop or a new address has come.
 fn is_stop(a: u32) -> bool
-    ensures { result ≡ (flagOf a ISR-STOPF || flagOf a ISR-ADDR) }
+    ensures { result ≡ (flag_of a ISR_STOPF || flag_of a ISR_ADDR) }
 {
     Isr(a).stopf() || Isr(a).addr()
 }
 
 fn stop_or(c: Call, s: SavedCall, a: u32) -> Effect
     requires { Small s }
-    ensures { result ≡ stopOr c s a }
+    ensures { result ≡ stop_or c s a }
 {
     if is_stop(a) {
         if call::is_transaction(c) {
@@ -296,7 +296,7 @@ fn stop_or(c: Call, s: SavedCall, a: u32) -> Effect
 }
 
 fn goes_if(flag: bool, t: Step) -> Effect
-    ensures { result ≡ goesIf flag t }
+    ensures { result ≡ goes_if flag t }
 {
     if flag {
         return Effect::Goes(t);
@@ -305,7 +305,7 @@ fn goes_if(flag: bool, t: Step) -> Effect
 }
 
 fn next_if(flag: bool) -> Effect
-    ensures { result ≡ nextIf flag }
+    ensures { result ≡ next_if flag }
 {
     if flag {
         return Effect::Next(Step::Begin);
@@ -315,7 +315,7 @@ fn next_if(flag: bool) -> Effect
 
 fn wait_at(c: Call, v: View, s: SavedCall, a: u32, f: Flag) -> Effect
     requires { Small s }
-    ensures { result ≡ waitAt c v s a f }
+    ensures { result ≡ wait_at c v s a f }
 {
     match f {
         Flag::Rxne => {
@@ -339,14 +339,14 @@ fn wait_at(c: Call, v: View, s: SavedCall, a: u32, f: Flag) -> Effect
 
 // A transaction also waits at the end of a piece.
 fn is_waiting_on(c: Call, v: View, s: SavedCall) -> bool
-    ensures { result ≡ (transaction c || byteThere c v s) }
+    ensures { result ≡ (transaction c || byte_there c v s) }
 {
     call::is_transaction(c) || is_there(c, v, s)
 }
 
 fn byte_moved(c: Call, v: View, s: SavedCall) -> Effect
     requires { Small s }
-    ensures { result ≡ byteMoved c v s }
+    ensures { result ≡ byte_moved c v s }
 {
     if is_waiting_on(c, v, s) {
         return Effect::Goes(Step::Wait);
@@ -358,7 +358,7 @@ fn byte_moved(c: Call, v: View, s: SavedCall) -> Effect
 }
 
 fn own_then(c: Call) -> Effect
-    ensures { result ≡ ownThen c }
+    ensures { result ≡ own_then c }
 {
     if call::is_call(c, Call::New) {
         return Effect::Goes(Step::Enable);
@@ -372,7 +372,7 @@ fn own_then(c: Call) -> Effect
 // After a modify's write.
 fn written(c: Call, v: View, s: SavedCall, m: Modify) -> Effect
     requires { Small s }
-    ensures { result ≡ writtenAt c v s m }
+    ensures { result ≡ written_at c v s m }
 {
     match m {
         Modify::PeOff => {
@@ -404,14 +404,14 @@ fn written(c: Call, v: View, s: SavedCall, m: Modify) -> Effect
 }
 
 fn start_status(a: u32) -> Effect
-    ensures { result ≡ errorOr a (nackOr a (Goes StartControl)) }
+    ensures { result ≡ error_or a (nack_or a (Goes StartControl)) }
 {
     error_or(a, nack_or(a, Effect::Goes(Step::StartControl)))
 }
 
 fn wait(c: Call, v: View, s: SavedCall, a: u32) -> Effect
     requires { Small s }
-    ensures { result ≡ errorOr a (waitAt c v s a (awaited c v s)) }
+    ensures { result ≡ error_or a (wait_at c v s a (awaited c v s)) }
 {
     error_or(a, wait_at(c, v, s, a, flag_awaited(c, v, s)))
 }
@@ -419,7 +419,7 @@ fn wait(c: Call, v: View, s: SavedCall, a: u32) -> Effect
 // What the answer leads to, in the saved call that `note` gave.
 fn effect(c: Call, d: Description, v: View, s: SavedCall, a: u32, t: Step) -> Effect
     requires { Small s }
-    ensures { result ≡ effectAt c d v s a t }
+    ensures { result ≡ effect_at c d v s a t }
 {
     let o = s.outcome;
     match t {
@@ -498,7 +498,7 @@ fn effect(c: Call, d: Description, v: View, s: SavedCall, a: u32, t: Step) -> Ef
 
 // The counter of accesses stays at its end.
 pub fn one_more(n: u32) -> u32
-    ensures { result ≡ oneMore n }
+    ensures { result ≡ one_more n }
 {
     if n == 0xFFFF_FFFF {
         return n;
@@ -508,7 +508,7 @@ pub fn one_more(n: u32) -> u32
 
 fn apply(s: SavedCall, a: u32, t: Effect) -> SavedCall
     requires { s.piece ≤ 65535 }
-    ensures { result ≡ applyOf s a t }
+    ensures { result ≡ apply_of s a t }
 {
     let n = one_more(s.accesses);
     match t {
@@ -561,25 +561,25 @@ fn apply(s: SavedCall, a: u32, t: Effect) -> SavedCall
 }
 
 pub fn is_ended(t: Step) -> bool
-    ensures { result ≡ sameStep t Ended }
+    ensures { result ≡ same_step t Ended }
 {
     if let Step::Ended = t { true } else { false }
 }
 
 pub fn is_wait(t: Step) -> bool
-    ensures { result ≡ sameStep t Wait }
+    ensures { result ≡ same_step t Wait }
 {
     if let Step::Wait = t { true } else { false }
 }
 
 pub fn is_byte(t: Step) -> bool
-    ensures { result ≡ sameStep t Byte }
+    ensures { result ≡ same_step t Byte }
 {
     if let Step::Byte = t { true } else { false }
 }
 
 fn is_address(t: Step) -> bool
-    ensures { result ≡ sameStep t Address }
+    ensures { result ≡ same_step t Address }
 {
     if let Step::Address = t { true } else { false }
 }
@@ -625,7 +625,7 @@ fn readdress(o: Outcome, n: u32) -> Outcome
 
 // OA1 is the address only if it has ten bits; a board of seven bits may be addressed by ADDCODE 0x78 to 0x7B too.
 fn own_or(code: u32, a: u32) -> u32
-    ensures { result ≡ ownOr code a }
+    ensures { result ≡ own_or code a }
 {
     if Oar1(a).oa1mode() {
         return Oar1(a).oa1();
@@ -661,7 +661,7 @@ fn note(v: View, s: SavedCall, a: u32) -> SavedCall
 
 fn after_small(c: Call, d: Description, v: View, s: SavedCall, a: u32) -> SavedCall
     requires { Small s × (v.size ≤ 65535) }
-    ensures { result ≡ afterIn c d v s a }
+    ensures { result ≡ after_in c d v s a }
 {
     let t = s.step;
     let n = note(v, s, a);
@@ -677,7 +677,7 @@ fn is_small(v: View, s: SavedCall) -> bool
 // The saved call after its access with the answer a. One whose numbers are too large for any run is handed back the same; row 13
 // takes none that is.
 pub fn after(c: Call, d: Description, v: View, s: SavedCall, a: u32) -> SavedCall
-    ensures { result ≡ cond (small v s) (afterIn c d v s a) s }
+    ensures { result ≡ cond (small v s) (after_in c d v s a) s }
 {
     if is_small(v, s) {
         return after_small(c, d, v, s, a);
@@ -700,7 +700,7 @@ fn is_listening(c: Call) -> bool
 }
 
 fn begin_step(c: Call, nonempty: bool) -> Step
-    ensures { result ≡ beginAt c nonempty }
+    ensures { result ≡ begin_at c nonempty }
 {
     if is_resetting(c) {
         return Step::ModifyRead(Modify::PeOff);
@@ -727,7 +727,7 @@ fn begin_step(c: Call, nonempty: bool) -> Step
 }
 
 pub fn begin_at(c: Call, nonempty: bool) -> SavedCall
-    ensures { result ≡ start_at c (beginAt c nonempty) }
+    ensures { result ≡ start_at c (begin_at c nonempty) }
 {
     saved_call::fresh(call::number(c), begin_step(c, nonempty))
 }

@@ -4,10 +4,10 @@ use mathlib.Core.Path.{◌≡◌, refl}
 use mathlib.Core.List.{List, [], ◌∷◌, map}
 use Prim.Native.Nat.{ℕ}
 use Rattle.fields.specs.Field.{put_of, with_bits}
-use Rattle.registers.specs.Addresses.{sevenBitOwn, masked}
-use Rattle.timing.specs.Bands.{timingOf, bandOf, inBandOf, equalAt, doubleAt}
-use Rattle.timing.specs.Refusals.{timingRefusalNumber}
-use Rattle.timing.specs.Timingr.{timingrWord}
+use Rattle.registers.specs.Addresses.{seven_bit_own, masked}
+use Rattle.timing.specs.Bands.{timing_of, band_of, in_band_of, equal_at, double_at}
+use Rattle.timing.specs.Refusals.{timing_refusal_number}
+use Rattle.timing.specs.Timingr.{timingr_word}
 use Rattle.timing.specs.declared.Timed.{Timed}
 use Rattle.timing.specs.declared.Timed.TheVariants.{Timing, Refused}
 
@@ -16,8 +16,8 @@ pub data Answer : Type 0 where
   refused : ℕ → Answer
 
 abbrev pub answer_of : Timed → Answer
-answer_of (Timing t) = word (timingrWord t)
-answer_of (Refused why) = refused (timingRefusalNumber why)
+answer_of (Timing t) = word (timingr_word t)
+answer_of (Refused why) = refused (timing_refusal_number why)
 
 -- what is asked: a timing of clock and frequency, OAR1 of an own address, OAR2 of a secondary one and its mask
 pub data Question : Type 0 where
@@ -26,8 +26,8 @@ pub data Question : Type 0 where
   oar2 : ℕ → ℕ → Question
 
 abbrev pub ask : Question → Answer
-ask (timing clock frequency) = answer_of (timingOf clock frequency)
-ask (oar1 own) = word (sevenBitOwn own)
+ask (timing clock frequency) = answer_of (timing_of clock frequency)
+ask (oar1 own) = word (seven_bit_own own)
 ask (oar2 address m) = word (masked address m)
 
 pub record Case : Type 0 where
@@ -54,6 +54,6 @@ cases =
     ∷ (oar2 0x21 2 gives word 0x342)
     ∷ []
 
-pub proved-cases : map (λ (c : Case). ask c.question) cases ≡ map (λ (c : Case). c.answer) cases
-unfolding timingOf bandOf inBandOf equalAt doubleAt put_of with_bits
-proved-cases = refl
+pub proved_cases : map (λ (c : Case). ask c.question) cases ≡ map (λ (c : Case). c.answer) cases
+unfolding timing_of band_of in_band_of equal_at double_at put_of with_bits
+proved_cases = refl

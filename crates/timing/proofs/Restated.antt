@@ -11,9 +11,9 @@ use borrow.Fn.World
 use contract.Lifetimes.{Lfts}
 use denote.Triple.Clauses
 use Rattle.fields.proofs.Laws.{and_l, and_r}
-use Rattle.fields.specs.Field.{getOf, bits_at}
-use Rattle.timing.specs.Refusals.{timingRefusalNumber}
-use Rattle.timing.specs.Timingr.{packOf, unpackOf}
+use Rattle.fields.specs.Field.{get_of, bits_at}
+use Rattle.timing.specs.Refusals.{timing_refusal_number}
+use Rattle.timing.specs.Timingr.{pack_of, unpack_of}
 use Rattle.timing.specs.declared.Packed.TheVariants as packed
 use Rattle.timing.specs.declared.TimingRefusal.{TimingRefusal}
 use Rattle.timing.specs.declared.TimingRefusal.TheVariants.{NoSpeed, ClockOver, Ratio, ClockSlow, SpeedLow, NoSetup, FieldWide, BadBands, NoBand}
@@ -30,14 +30,14 @@ use Rattle.timing.proofs.TimingRefusal.number.Reads as number-reads
 
 -- ---- No function asks anything of its caller.
 
-pack-asks-nothing : (κs : Lfts 0) (a : borrow.Fn.World.ArgsD pack.signature κs) → pack-reads.Asked κs a
-pack-asks-nothing κs a = tt
+pack_asks_nothing : (κs : Lfts 0) (a : borrow.Fn.World.ArgsD pack.signature κs) → pack-reads.Asked κs a
+pack_asks_nothing κs a = tt
 
-unpack-asks-nothing : (κs : Lfts 0) (a : borrow.Fn.World.ArgsD unpack.signature κs) → unpack-reads.Asked κs a
-unpack-asks-nothing κs a = tt
+unpack_asks_nothing : (κs : Lfts 0) (a : borrow.Fn.World.ArgsD unpack.signature κs) → unpack-reads.Asked κs a
+unpack_asks_nothing κs a = tt
 
-number-asks-nothing : (κs : Lfts 0) (a : borrow.Fn.World.ArgsD number.signature κs) → number-reads.Asked κs a
-number-asks-nothing κs a = tt
+number_asks_nothing : (κs : Lfts 0) (a : borrow.Fn.World.ArgsD number.signature κs) → number-reads.Asked κs a
+number_asks_nothing κs a = tt
 
 -- ---- Packing
 
@@ -52,13 +52,13 @@ wide x y z h = not_so (leb x 15 && (leb y 15 && leb z 15)) (λ t.
 
 module _ (κs : Lfts 0) (a : borrow.Fn.World.ArgsD pack.signature κs) (p : borrow.Fn.World.ResD pack.signature κs)
     (x : denote.Triple.Clauses.AtExit (borrow.Fn.Kinds.ended_of 0 pack-kinds.ps pack-kinds.r) κs) (contract : pack-reads.Post κs a p x) where
-  pub packed-word : Within a.0 →
+  pub packed_word : Within a.0 →
       p ≡ packed.Raw (record { 0 = a.0.presc * 2 ^ 28 + (a.0.scldel * 2 ^ 20 + (a.0.sdadel * 2 ^ 16 + (a.0.sclh * 2 ^ 8 + a.0.scll))) })
-  packed-word w = contract ∙ packs a.0 w ∙ ap (λ (n : ℕ). packed.Raw (record { 0 = n })) (sum a.0 w)
+  packed_word w = contract ∙ packs a.0 w ∙ ap (λ (n : ℕ). packed.Raw (record { 0 = n })) (sum a.0 w)
 
-  pub refused-7 : 15 < max a.0.presc (max a.0.scldel a.0.sdadel) → p ≡ packed.Refused FieldWide
-  unfolding packOf
-  refused-7 h = contract ∙ rw (wide a.0.presc a.0.scldel a.0.sdadel h)
+  pub refused_7 : 15 < max a.0.presc (max a.0.scldel a.0.sdadel) → p ≡ packed.Refused FieldWide
+  unfolding pack_of
+  refused_7 h = contract ∙ rw (wide a.0.presc a.0.scldel a.0.sdadel h)
 
 -- ---- Unpacking
 
@@ -71,15 +71,15 @@ module _ (κs : Lfts 0) (a : borrow.Fn.World.ArgsD unpack.signature κs) (t : bo
     sclh = a.0.0 / 2 ^ 8 % 256;
     scll = a.0.0 / 2 ^ 0 % 256;
   }
-  unfolding unpackOf getOf bits_at
+  unfolding unpack_of get_of bits_at
   unpacked = contract
 
 -- ---- Numbers
 
 module _ (κs : Lfts 0) (a : borrow.Fn.World.ArgsD number.signature κs) (n : borrow.Fn.World.ResD number.signature κs)
     (x : denote.Triple.Clauses.AtExit (borrow.Fn.Kinds.ended_of 0 number-kinds.ps number-kinds.r) κs) (contract : number-reads.Post κs a n x) where
-  is : (r : TimingRefusal) → a.0 ≡ r → n ≡ timingRefusalNumber r
-  is r e = contract ∙ ap timingRefusalNumber e
+  is : (r : TimingRefusal) → a.0 ≡ r → n ≡ timing_refusal_number r
+  is r e = contract ∙ ap timing_refusal_number e
 
   pub numbers :
       (a.0 ≡ NoSpeed → n ≡ 1) × (a.0 ≡ ClockOver → n ≡ 2) × (a.0 ≡ Ratio → n ≡ 3) × (a.0 ≡ ClockSlow → n ≡ 4)

@@ -6,10 +6,10 @@ use native.Mathlib.Nat.{mod-eq_of_lt, div-one}
 use native.Mathlib.Omega.{arith}
 use borrow.Author.Tests.{le-leb}
 use lib.Pow.{split, shr-shr, shr_mod}
-use Rattle.fields.specs.Field.{getOf, put_of, bits_at}
-use Rattle.fields.proofs.Laws.{get-put, get-apart, get-lt, put_on}
-use Rattle.registers.specs.Places.{TIMINGR-PRESC, TIMINGR-SCLDEL, TIMINGR-SDADEL, TIMINGR-SCLH, TIMINGR-SCLL}
-use Rattle.timing.specs.Timingr.{timingrWord, rawOf, packOf, reserved, unpackOf}
+use Rattle.fields.specs.Field.{get_of, put_of, bits_at}
+use Rattle.fields.proofs.Laws.{get_put, get_apart, get_lt, put_on}
+use Rattle.registers.specs.Places.{TIMINGR_PRESC, TIMINGR_SCLDEL, TIMINGR_SDADEL, TIMINGR_SCLH, TIMINGR_SCLL}
+use Rattle.timing.specs.Timingr.{timingr_word, raw_of, pack_of, reserved, unpack_of}
 use Rattle.timing.specs.declared.I2cTiming.{I2cTiming}
 use Rattle.timing.specs.declared.RawTimingr.{RawTimingr}
 use Rattle.timing.specs.declared.Packed.TheVariants.{Raw}
@@ -26,51 +26,51 @@ same : {p p' s s' d d' h h' l l' : ℕ} → p ≡ p' → s ≡ s' → d ≡ d' �
 same e₁ e₂ e₃ e₄ e₅ = cc
 
 -- a timing within the widths is packed, and unpacking its word gives it back
-pub packs : (t : I2cTiming) → Within t → packOf t ≡ Raw (rawOf t)
-unfolding packOf
+pub packs : (t : I2cTiming) → Within t → pack_of t ≡ Raw (raw_of t)
+unfolding pack_of
 packs t b = simp (le-leb t.presc 15 (omega arith), le-leb t.scldel 15 (omega arith), le-leb t.sdadel 15 (omega arith))
 
-pub unpack-pack : (t : I2cTiming) → Within t → unpackOf (rawOf t) ≡ t
-unfolding unpackOf
-unpack-pack t b =
+pub unpack_pack : (t : I2cTiming) → Within t → unpack_of (raw_of t) ≡ t
+unfolding unpack_of
+unpack_pack t b =
     same
-    (simp (get-put, get-apart, tt {0}) (mod-eq_of_lt b.presc))
-    (simp (get-put, get-apart, tt {0}) (mod-eq_of_lt b.scldel))
-    (simp (get-put, get-apart, tt {0}) (mod-eq_of_lt b.sdadel))
-    (simp (get-put, get-apart, tt {0}) (mod-eq_of_lt b.sclh))
-    (simp (get-put, get-apart, tt {0}) (mod-eq_of_lt b.scll))
+    (simp (get_put, get_apart, tt {0}) (mod-eq_of_lt b.presc))
+    (simp (get_put, get_apart, tt {0}) (mod-eq_of_lt b.scldel))
+    (simp (get_put, get_apart, tt {0}) (mod-eq_of_lt b.sdadel))
+    (simp (get_put, get_apart, tt {0}) (mod-eq_of_lt b.sclh))
+    (simp (get_put, get_apart, tt {0}) (mod-eq_of_lt b.scll))
 
 -- a word of fields within their widths is their sum
 pub sum : (t : I2cTiming) → Within t
-    → timingrWord t ≡ t.presc * 2 ^ 28 + (t.scldel * 2 ^ 20 + (t.sdadel * 2 ^ 16 + (t.sclh * 2 ^ 8 + t.scll)))
+    → timingr_word t ≡ t.presc * 2 ^ 28 + (t.scldel * 2 ^ 20 + (t.sdadel * 2 ^ 16 + (t.sclh * 2 ^ 8 + t.scll)))
 sum t b = rw (e₁, e₂, e₃, e₄) e₅
   where
-    e₁ : put_of 0 TIMINGR-SCLL t.scll ≡ t.scll
-    e₁ = put_on 0 TIMINGR-SCLL t.scll tt (omega arith) b.scll ∙ (let e : t.scll * 2 ^ 0 + 0 ≡ t.scll = omega arith in e)
+    e₁ : put_of 0 TIMINGR_SCLL t.scll ≡ t.scll
+    e₁ = put_on 0 TIMINGR_SCLL t.scll tt (omega arith) b.scll ∙ (let e : t.scll * 2 ^ 0 + 0 ≡ t.scll = omega arith in e)
 
-    e₂ : put_of t.scll TIMINGR-SCLH t.sclh ≡ t.sclh * 2 ^ 8 + t.scll
-    e₂ = put_on t.scll TIMINGR-SCLH t.sclh tt b.scll b.sclh
+    e₂ : put_of t.scll TIMINGR_SCLH t.sclh ≡ t.sclh * 2 ^ 8 + t.scll
+    e₂ = put_on t.scll TIMINGR_SCLH t.sclh tt b.scll b.sclh
 
-    e₃ : put_of (t.sclh * 2 ^ 8 + t.scll) TIMINGR-SDADEL t.sdadel ≡ t.sdadel * 2 ^ 16 + (t.sclh * 2 ^ 8 + t.scll)
-    e₃ = put_on _ TIMINGR-SDADEL t.sdadel tt (omega (arith, b.scll, b.sclh)) b.sdadel
+    e₃ : put_of (t.sclh * 2 ^ 8 + t.scll) TIMINGR_SDADEL t.sdadel ≡ t.sdadel * 2 ^ 16 + (t.sclh * 2 ^ 8 + t.scll)
+    e₃ = put_on _ TIMINGR_SDADEL t.sdadel tt (omega (arith, b.scll, b.sclh)) b.sdadel
 
-    e₄ : put_of (t.sdadel * 2 ^ 16 + (t.sclh * 2 ^ 8 + t.scll)) TIMINGR-SCLDEL t.scldel ≡ t.scldel * 2 ^ 20 + (t.sdadel * 2 ^ 16 + (t.sclh * 2 ^ 8 + t.scll))
-    e₄ = put_on _ TIMINGR-SCLDEL t.scldel tt (omega (arith, b.scll, b.sclh, b.sdadel)) b.scldel
+    e₄ : put_of (t.sdadel * 2 ^ 16 + (t.sclh * 2 ^ 8 + t.scll)) TIMINGR_SCLDEL t.scldel ≡ t.scldel * 2 ^ 20 + (t.sdadel * 2 ^ 16 + (t.sclh * 2 ^ 8 + t.scll))
+    e₄ = put_on _ TIMINGR_SCLDEL t.scldel tt (omega (arith, b.scll, b.sclh, b.sdadel)) b.scldel
 
-    e₅ : put_of (t.scldel * 2 ^ 20 + (t.sdadel * 2 ^ 16 + (t.sclh * 2 ^ 8 + t.scll))) TIMINGR-PRESC t.presc
+    e₅ : put_of (t.scldel * 2 ^ 20 + (t.sdadel * 2 ^ 16 + (t.sclh * 2 ^ 8 + t.scll))) TIMINGR_PRESC t.presc
         ≡ t.presc * 2 ^ 28 + (t.scldel * 2 ^ 20 + (t.sdadel * 2 ^ 16 + (t.sclh * 2 ^ 8 + t.scll)))
-    e₅ = put_on _ TIMINGR-PRESC t.presc tt (omega (arith, b.scll, b.sclh, b.sdadel, b.scldel)) b.presc
+    e₅ = put_on _ TIMINGR_PRESC t.presc tt (omega (arith, b.scll, b.sclh, b.sdadel, b.scldel)) b.presc
 
 -- what unpacking gives is within the widths
-within : (r : RawTimingr) → Within (unpackOf r)
-unfolding unpackOf
+within : (r : RawTimingr) → Within (unpack_of r)
+unfolding unpack_of
 within r =
     record {
-      presc = get-lt r.0 TIMINGR-PRESC;
-      scldel = get-lt r.0 TIMINGR-SCLDEL;
-      sdadel = get-lt r.0 TIMINGR-SDADEL;
-      sclh = get-lt r.0 TIMINGR-SCLH;
-      scll = get-lt r.0 TIMINGR-SCLL;
+      presc = get_lt r.0 TIMINGR_PRESC;
+      scldel = get_lt r.0 TIMINGR_SCLDEL;
+      sdadel = get_lt r.0 TIMINGR_SDADEL;
+      sclh = get_lt r.0 TIMINGR_SCLH;
+      scll = get_lt r.0 TIMINGR_SCLL;
     }
 
 -- the digits from bit k on are those from k + j on, and the j between
@@ -81,15 +81,15 @@ digits : (w a b c d e l h sd sc z p : ℕ) → a * 2 ^ 8 + l ≡ w → b * 2 ^ 8
     → e * 2 ^ 4 + z ≡ d → z ≡ 0 → p ≡ e → p * 2 ^ 28 + (sc * 2 ^ 20 + (sd * 2 ^ 16 + (h * 2 ^ 8 + l))) ≡ w
 digits w a b c d e l h sd sc z p h₁ h₂ h₃ h₄ h₅ h₆ h₇ = omega arith
 
-whole : (r : RawTimingr) → r.0 < 2 ^ 32 → getOf r.0 reserved ≡ 0
-    → (let u = unpackOf r in u.presc * 2 ^ 28 + (u.scldel * 2 ^ 20 + (u.sdadel * 2 ^ 16 + (u.sclh * 2 ^ 8 + u.scll)))) ≡ r.0
-unfolding unpackOf getOf bits_at
+whole : (r : RawTimingr) → r.0 < 2 ^ 32 → get_of r.0 reserved ≡ 0
+    → (let u = unpack_of r in u.presc * 2 ^ 28 + (u.scldel * 2 ^ 20 + (u.sdadel * 2 ^ 16 + (u.sclh * 2 ^ 8 + u.scll)))) ≡ r.0
+unfolding unpack_of get_of bits_at
 whole r h z =
     let w = r.0 in
     digits w (w / 2 ^ 8) (w / 2 ^ 16) (w / 2 ^ 20) (w / 2 ^ 24) (w / 2 ^ 28) _ _ _ _ _ _
     (step w 0 8 ∙ div-one w) (step w 8 8) (step w 16 4) (step w 20 4) (step w 24 4) z (shr_mod 4 28 h)
 
-pub pack-unpack : (r : RawTimingr) → r.0 < 2 ^ 32 → getOf r.0 reserved ≡ 0 → packOf (unpackOf r) ≡ Raw r
-pack-unpack r h z =
-    packs (unpackOf r) (within r)
-    ∙ ap (λ (x : ℕ). Raw (record { 0 = x })) (sum (unpackOf r) (within r) ∙ whole r h z)
+pub pack_unpack : (r : RawTimingr) → r.0 < 2 ^ 32 → get_of r.0 reserved ≡ 0 → pack_of (unpack_of r) ≡ Raw r
+pack_unpack r h z =
+    packs (unpack_of r) (within r)
+    ∙ ap (λ (x : ℕ). Raw (record { 0 = x })) (sum (unpack_of r) (within r) ∙ whole r h z)

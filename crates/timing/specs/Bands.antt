@@ -26,20 +26,20 @@ abbrev pub above : Band
 above = row 4294967295 17000000 96 8000000 4000000 Double
 
 -- The first row that the frequency does not exceed.
-abbrev pub firstUpTo : ℕ → List Band → Band
-firstUpTo frequency [] = above
-firstUpTo frequency (b ∷ bs) = cond (leb frequency b.upper) b (firstUpTo frequency bs)
+abbrev pub first_up_to : ℕ → List Band → Band
+first_up_to frequency [] = above
+first_up_to frequency (b ∷ bs) = cond (leb frequency b.upper) b (first_up_to frequency bs)
 
-unfoldable pub bandOf : ℕ → Band
-bandOf frequency = firstUpTo frequency bands
+unfoldable pub band_of : ℕ → Band
+band_of frequency = first_up_to frequency bands
 
 -- x held to lo .. hi
 abbrev pub held : ℕ → ℕ → ℕ → ℕ
 held lo hi x = min hi (max lo x)
 
 -- p of document 01, before any limit: how often d goes into a cycle of r clocks, rounded up
-abbrev pub dividerOf : ℕ → ℕ → ℕ
-dividerOf r d = (r - 1) / d + 1
+abbrev pub divider_of : ℕ → ℕ → ℕ
+divider_of r d = (r - 1) / d + 1
 
 -- the fields for a prescaler p, with the two halves of a cycle
 abbrev pub fields_of : ℕ → Band → ℕ → ℕ → ℕ → I2cTiming
@@ -53,30 +53,30 @@ fields_of clock b p sclh scll =
     }
 
 -- Up to 100 kHz both halves are (c - 2) / 2.
-unfoldable pub equalAt : ℕ → ℕ → Band → ℕ → Timed
-equalAt clock r b p =
+unfoldable pub equal_at : ℕ → ℕ → Band → ℕ → Timed
+equal_at clock r b p =
     let half = (r / p - 2) / 2 in
     cond (eqb (clock / b.scldel / p) 0) (Refused NoSetup)
     (Timing (fields_of clock b p half half))
 
 -- Above, the high part is (c - 3) / 3 and the low one twice as long.
-unfoldable pub doubleAt : ℕ → ℕ → Band → ℕ → Timed
-doubleAt clock r b p =
+unfoldable pub double_at : ℕ → ℕ → Band → ℕ → Timed
+double_at clock r b p =
     let high = (r / p - 3) / 3 in
     Timing (fields_of clock b p high (2 * (high + 1) - 1))
 
 -- Which prescaler: up to 100 kHz at most 16.
-abbrev pub shapedOf : Shape → ℕ → ℕ → Band → Timed
-shapedOf Equal clock r b = cond (leb 8224 r) (Refused SpeedLow) (equalAt clock r b (min 16 (dividerOf r b.d)))
-shapedOf Double clock r b = cond (leb 1537 r) (Refused SpeedLow) (doubleAt clock r b (dividerOf r b.d))
+abbrev pub shaped_of : Shape → ℕ → ℕ → Band → Timed
+shaped_of Equal clock r b = cond (leb 8224 r) (Refused SpeedLow) (equal_at clock r b (min 16 (divider_of r b.d)))
+shaped_of Double clock r b = cond (leb 1537 r) (Refused SpeedLow) (double_at clock r b (divider_of r b.d))
 
 -- A cycle of r clocks in a band.
-unfoldable pub inBandOf : ℕ → ℕ → Band → Timed
-inBandOf clock r b = cond (ltb clock b.least) (Refused ClockSlow) (shapedOf b.shape clock r b)
+unfoldable pub in_band_of : ℕ → ℕ → Band → Timed
+in_band_of clock r b = cond (ltb clock b.least) (Refused ClockSlow) (shaped_of b.shape clock r b)
 
-unfoldable pub timingOf : ℕ → ℕ → Timed
-timingOf clock frequency =
+unfoldable pub timing_of : ℕ → ℕ → Timed
+timing_of clock frequency =
     cond (eqb frequency 0) (Refused NoSpeed)
     (cond (ltb 250000000 clock) (Refused ClockOver)
     (cond (ltb (clock / frequency) 4) (Refused Ratio)
-    (inBandOf clock (clock / frequency) (bandOf frequency))))
+    (in_band_of clock (clock / frequency) (band_of frequency))))

@@ -3,13 +3,13 @@ use Rattle.std.specs.Prelude.{ℕ}
 use Rattle.timing.specs.declared.TimingRefusal.{TimingRefusal}
 use Rattle.timing.specs.declared.TimingRefusal.TheVariants.{NoSpeed, ClockOver, Ratio, ClockSlow, SpeedLow, NoSetup, FieldWide, BadBands, NoBand}
 
-abbrev pub timingRefusalNumber : TimingRefusal → ℕ
-timingRefusalNumber NoSpeed = 1
-timingRefusalNumber ClockOver = 2
-timingRefusalNumber Ratio = 3
-timingRefusalNumber ClockSlow = 4
-timingRefusalNumber SpeedLow = 5
-timingRefusalNumber NoSetup = 6
-timingRefusalNumber FieldWide = 7
-timingRefusalNumber BadBands = 16
-timingRefusalNumber NoBand = 17
+abbrev pub timing_refusal_number : TimingRefusal → ℕ
+timing_refusal_number NoSpeed = 1
+timing_refusal_number ClockOver = 2
+timing_refusal_number Ratio = 3
+timing_refusal_number ClockSlow = 4
+timing_refusal_number SpeedLow = 5
+timing_refusal_number NoSetup = 6
+timing_refusal_number FieldWide = 7
+timing_refusal_number BadBands = 16
+timing_refusal_number NoBand = 17

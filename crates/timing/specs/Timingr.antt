@@ -1,7 +1,7 @@
 -- A timing packed into a TIMINGR word and a word taken apart (RM0492, TIMINGR; document 01, refusal 7). Assumes nothing.
 use Rattle.std.specs.Prelude.{ℕ, cond, ◌&&◌, leb}
-use Rattle.fields.specs.Field.{Place, place, getOf, put_of}
-use Rattle.registers.specs.Places.{TIMINGR-PRESC, TIMINGR-SCLDEL, TIMINGR-SDADEL, TIMINGR-SCLH, TIMINGR-SCLL}
+use Rattle.fields.specs.Field.{Place, place, get_of, put_of}
+use Rattle.registers.specs.Places.{TIMINGR_PRESC, TIMINGR_SCLDEL, TIMINGR_SDADEL, TIMINGR_SCLH, TIMINGR_SCLL}
 use Rattle.timing.specs.declared.I2cTiming.{I2cTiming}
 use Rattle.timing.specs.declared.RawTimingr.{RawTimingr}
 use Rattle.timing.specs.declared.Packed.{Packed}
@@ -9,38 +9,38 @@ use Rattle.timing.specs.declared.Packed.TheVariants.{Raw, Refused}
 use Rattle.timing.specs.declared.TimingRefusal.TheVariants.{FieldWide}
 
 -- The word of a timing: each number in its field.
-abbrev pub timingrWord : I2cTiming → ℕ
-timingrWord t =
+abbrev pub timingr_word : I2cTiming → ℕ
+timingr_word t =
     put_of
     (put_of
     (put_of
     (put_of
-    (put_of 0 TIMINGR-SCLL t.scll)
-    TIMINGR-SCLH t.sclh)
-    TIMINGR-SDADEL t.sdadel)
-    TIMINGR-SCLDEL t.scldel)
-    TIMINGR-PRESC t.presc
+    (put_of 0 TIMINGR_SCLL t.scll)
+    TIMINGR_SCLH t.sclh)
+    TIMINGR_SDADEL t.sdadel)
+    TIMINGR_SCLDEL t.scldel)
+    TIMINGR_PRESC t.presc
 
-abbrev pub rawOf : I2cTiming → RawTimingr
-rawOf t = record { 0 = timingrWord t }
+abbrev pub raw_of : I2cTiming → RawTimingr
+raw_of t = record { 0 = timingr_word t }
 
 -- Refused where a field of four bits does not hold its number; SCLH and SCLL hold every byte.
-unfoldable pub packOf : I2cTiming → Packed
-packOf t =
+unfoldable pub pack_of : I2cTiming → Packed
+pack_of t =
     cond (leb t.presc 15 && (leb t.scldel 15 && leb t.sdadel 15))
-    (Raw (rawOf t))
+    (Raw (raw_of t))
     (Refused FieldWide)
 
 -- Bits 24 to 27 belong to no field: unpacking leaves them out.
 abbrev pub reserved : Place
 reserved = place 24 4
 
-unfoldable pub unpackOf : RawTimingr → I2cTiming
-unpackOf r =
+unfoldable pub unpack_of : RawTimingr → I2cTiming
+unpack_of r =
     record {
-      presc = getOf r.0 TIMINGR-PRESC;
-      scldel = getOf r.0 TIMINGR-SCLDEL;
-      sdadel = getOf r.0 TIMINGR-SDADEL;
-      sclh = getOf r.0 TIMINGR-SCLH;
-      scll = getOf r.0 TIMINGR-SCLL;
+      presc = get_of r.0 TIMINGR_PRESC;
+      scldel = get_of r.0 TIMINGR_SCLDEL;
+      sdadel = get_of r.0 TIMINGR_SDADEL;
+      sclh = get_of r.0 TIMINGR_SCLH;
+      scll = get_of r.0 TIMINGR_SCLL;
     }

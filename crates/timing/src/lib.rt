@@ -1,8 +1,8 @@
 // What a bus timing is: the fields of TIMINGR, packed and unpacked, what a speed band is, and why there may be no timing. The crate
 // `bands` works timings out. Every timing and word has an answer, which is a numbered refusal of document 01 where none is right.
 ghost use Rattle.std.specs.Prelude.{◌≡◌};
-ghost use Rattle.timing.specs.Refusals.{timingRefusalNumber};
-ghost use Rattle.timing.specs.Timingr.{rawOf, packOf, unpackOf};
+ghost use Rattle.timing.specs.Refusals.{timing_refusal_number};
+ghost use Rattle.timing.specs.Timingr.{raw_of, pack_of, unpack_of};
 
 use registers::Timingr;
 
@@ -34,7 +34,7 @@ pub enum TimingRefusal {
 
 impl TimingRefusal {
     pub fn number(self) -> u32
-        ensures { result ≡ timingRefusalNumber self }
+        ensures { result ≡ timing_refusal_number self }
     {
         match self {
             TimingRefusal::NoSpeed => 1,
@@ -65,7 +65,7 @@ pub enum Timed {
 impl I2cTiming {
     // The word of the fields' low bits.
     pub fn word(self) -> RawTimingr
-        ensures { result ≡ rawOf self }
+        ensures { result ≡ raw_of self }
     {
         let w = Timingr(Timingr::RESET)
             .with_scll(self.scll as u32)
@@ -77,7 +77,7 @@ impl I2cTiming {
     }
 
     pub fn pack(self) -> Packed
-        ensures { result ≡ packOf self }
+        ensures { result ≡ pack_of self }
     {
         if self.presc > 15 {
             return Packed::Refused(TimingRefusal::FieldWide);
@@ -94,7 +94,7 @@ impl I2cTiming {
 
 impl RawTimingr {
     pub fn unpack(self) -> I2cTiming
-        ensures { result ≡ unpackOf self }
+        ensures { result ≡ unpack_of self }
     {
         let word = Timingr(self.0);
         I2cTiming {

@@ -3,20 +3,20 @@ use Rattle.std.specs.Prelude.{ℕ, ◌+◌, ◌-◌, Bool, cond, ◌&&◌, List,
 use Rattle.window.specs.declared.Cursor.{Cursor}
 
 -- what a window `bytes` shows of the text t from its byte `from` on; the slice's other bytes are as they were
-abbrev pub shownOf : ℕ → List ℕ → List ℕ → List ℕ
-shownOf from t bytes = take (length bytes) (drop from t)
+abbrev pub shown_of : ℕ → List ℕ → List ℕ → List ℕ
+shown_of from t bytes = take (length bytes) (drop from t)
 
 pub record Shown : Type 0 where
   pub count : ℕ
   pub bytes : List ℕ
 
-unfoldable pub windowOf : ℕ → List ℕ → List ℕ → Shown
-windowOf from t bytes =
-    let s : List ℕ = shownOf from t bytes in
+unfoldable pub window_of : ℕ → List ℕ → List ℕ → Shown
+window_of from t bytes =
+    let s : List ℕ = shown_of from t bytes in
     record { count = length s; bytes = s ++ drop (length s) bytes }
 
-abbrev pub asShown : ℕ → List ℕ → Shown
-asShown n bytes = record { count = n; bytes = bytes }
+abbrev pub as_shown : ℕ → List ℕ → Shown
+as_shown n bytes = record { count = n; bytes = bytes }
 
 -- ---- A text that is put into a window byte by byte: those before the window are left out, those after it too.
 pub record Laid : Type 0 where
@@ -33,11 +33,11 @@ start_of from = record { skip = from; at = 0 }
 abbrev pub full : Laid → Bool
 full L = eqb L.skip 0 && leb (length L.bytes) L.at
 
-unfoldable pub putByte : ℕ → Laid → Laid
-putByte b L =
+unfoldable pub put_byte : ℕ → Laid → Laid
+put_byte b L =
     cond (ltb 0 L.skip) (record { skip = L.skip - 1; at = L.at; bytes = L.bytes })
     (cond (ltb L.at (length L.bytes)) (record { skip = L.skip; at = L.at + 1; bytes = set L.bytes L.at b }) L)
 
-unfoldable pub emitOf : List ℕ → Laid → Laid
-emitOf [] L = L
-emitOf (b ∷ t) L = emitOf t (putByte b L)
+unfoldable pub emit_of : List ℕ → Laid → Laid
+emit_of [] L = L
+emit_of (b ∷ t) L = emit_of t (put_byte b L)

@@ -1,7 +1,7 @@
 // A text put into a window: the bytes of the text from some place on, as many as a slice holds. So a text of any length is
 // laid out in fixed memory, one window after the other.
 ghost use Rattle.std.specs.Prelude.{◌≡◌, replicate};
-ghost use Rattle.window.specs.Window.{laid, start_of, full, putByte, emitOf};
+ghost use Rattle.window.specs.Window.{laid, start_of, full, put_byte, emit_of};
 
 // Where the text stands: how many of its bytes are still to be left out, and how many were written.
 #[derive(Drop)]
@@ -21,7 +21,7 @@ impl Cursor {
 
 // One byte of the text.
 pub fn put(p: Cursor, b: u8, out: &mut [u8]) -> Cursor
-    ensures { laid result out.new ≡ putByte b (laid p out.old) }
+    ensures { laid result out.new ≡ put_byte b (laid p out.old) }
 {
     let skip = p.skip;
     let at = p.at;
@@ -36,7 +36,7 @@ pub fn put(p: Cursor, b: u8, out: &mut [u8]) -> Cursor
 }
 
 pub fn put_all(p: Cursor, text: &[u8], out: &mut [u8]) -> Cursor
-    ensures { laid result out.new ≡ emitOf text.now (laid p out.old) }
+    ensures { laid result out.new ≡ emit_of text.now (laid p out.old) }
 {
     let mut q = p;
     for i in 0..text.len() {
@@ -53,7 +53,7 @@ fn is_full(p: Cursor, out: &[u8]) -> bool
 
 // A byte so many times; those that a full window has no room for cost nothing.
 pub fn put_repeated(p: Cursor, b: u8, n: usize, out: &mut [u8]) -> Cursor
-    ensures { laid result out.new ≡ emitOf (replicate n b) (laid p out.old) }
+    ensures { laid result out.new ≡ emit_of (replicate n b) (laid p out.old) }
 {
     let mut q = p;
     let mut left = n;

@@ -8,38 +8,38 @@ use mathlib.Core.List.{List, [], ◌∷◌, ◌++◌, append_assoc, append-nil}
 use lib.ListN.{length, get_or, take, drop, set, length-append, length-drop, drop_of_length-le, get_or-eq_default}
 use lib.Seq.{take-nil, take_all, take-suc, take_at, take-append_seam, set_split, drop-cons, drop_at, drop-append-add, drop-drop, get_or-drop, sets, sets-eq, length-take-le}
 use borrow.Author.Tests.{le-leb, lt-leb}
-use Rattle.words.specs.Words.{word_of, wordsFrom, words_in, word_at, Decoded, asDecoded, decodedOf, bytesIn, bytes_of, putWords, putWordsAt}
+use Rattle.words.specs.Words.{word_of, words_from, words_in, word_at, Decoded, as_decoded, decoded_of, bytes_in, bytes_of, put_words, put_words_at}
 
 -- ---- a word at its place
-pub length-words : (n : ℕ) (b : List ℕ) → length (wordsFrom n b) ≡ n
-length-words zero b = refl
-length-words (suc n) b = ap suc (length-words n (drop 4 b))
+pub length_words : (n : ℕ) (b : List ℕ) → length (words_from n b) ≡ n
+length_words zero b = refl
+length_words (suc n) b = ap suc (length_words n (drop 4 b))
 
 abbrev four : List ℕ → ℕ → ℕ
 four b k = word_of (get_or b k 0) (get_or b (k + 1) 0) (get_or b (k + 2) 0) (get_or b (k + 3) 0)
 
-four-drop : (b : List ℕ) (k m : ℕ) → m ≡ 4 + k → four (drop 4 b) k ≡ four b m
-four-drop b k m e = rw (e, get_or-drop, get_or-drop, get_or-drop, get_or-drop) (simp add_assoc)
+four_drop : (b : List ℕ) (k m : ℕ) → m ≡ 4 + k → four (drop 4 b) k ≡ four b m
+four_drop b k m e = rw (e, get_or-drop, get_or-drop, get_or-drop, get_or-drop) (simp add_assoc)
 
-at-word : (n i : ℕ) (b : List ℕ) → i < n → get_or (wordsFrom n b) i 0 ≡ four b (4 * i)
-at-word zero i b h = absurd (omega arith)
-at-word (suc n) zero b h = refl
-at-word (suc n) (suc i) b h = at-word n i (drop 4 b) (omega arith) ∙ four-drop b (4 * i) (4 * suc i) (omega arith)
+at_word : (n i : ℕ) (b : List ℕ) → i < n → get_or (words_from n b) i 0 ≡ four b (4 * i)
+at_word zero i b h = absurd (omega arith)
+at_word (suc n) zero b h = refl
+at_word (suc n) (suc i) b h = at_word n i (drop 4 b) (omega arith) ∙ four_drop b (4 * i) (4 * suc i) (omega arith)
 
 module _ (b : List ℕ) (i : ℕ) where
-  pub word-there : i < length b / 4 → (r : ℕ) → r ≡ four b (4 * i) → r ≡ word_at b i
+  pub word_there : i < length b / 4 → (r : ℕ) → r ≡ four b (4 * i) → r ≡ word_at b i
   unfolding words_in
-  word-there h r e = e ∙ sym (at-word (length b / 4) i b h)
+  word_there h r e = e ∙ sym (at_word (length b / 4) i b h)
 
   pub no_word : length b / 4 ≤ i → 0 ≡ word_at b i
   unfolding words_in
-  no_word h = sym (get_or-eq_default (wordsFrom (length b / 4) b) 0 (rw (length-words (length b / 4) b) h))
+  no_word h = sym (get_or-eq_default (words_from (length b / 4) b) 0 (rw (length_words (length b / 4) b) h))
 
-pub ruleset gets = (word-there, no_word)
+pub ruleset gets = (word_there, no_word)
 
 pub in_words : (b : List ℕ) → length (words_in b) ≡ length b / 4
 unfolding words_in
-in_words b = length-words (length b / 4) b
+in_words b = length_words (length b / 4) b
 
 -- ---- decoding
 no_words : (file : List ℕ) → length file < 4 → words_in file ≡ []
@@ -65,22 +65,22 @@ module _ (file words bytes now : List ℕ) (n : ℕ) (done : Reading (words_in f
   abbrev ws : List ℕ
   ws = words_in file
 
-  so_far : take (length words) ws ≡ take n ws → asDecoded n now ≡ decodedOf 0 file words
-  unfolding decodedOf
+  so_far : take (length words) ws ≡ take n ws → as_decoded n now ≡ decoded_of 0 file words
+  unfolding decoded_of
   so_far e = rw (e, length-take-le n ws done.few, done.there)
 
-  pub all-decoded : length bytes < 4 → asDecoded n now ≡ decodedOf 0 file words
-  all-decoded h =
+  pub all_decoded : length bytes < 4 → as_decoded n now ≡ decoded_of 0 file words
+  all_decoded h =
       let z : length ws ≤ n = omega (arith, length-drop n ws, ap length (done.left ∙ no_words bytes h), done.few) in
       so_far (take_all (length words) ws (omega (arith, done.room)) ∙ sym (take_all n ws z))
 
-  pub no-room-left : length now ≤ n → length now ≡ length words → asDecoded n now ≡ decodedOf 0 file words
-  no-room-left h z = so_far (let e : length words ≡ n = omega (arith, done.room) in rw e)
+  pub no_room_left : length now ≤ n → length now ≡ length words → as_decoded n now ≡ decoded_of 0 file words
+  no_room_left h z = so_far (let e : length words ≡ n = omega (arith, done.room) in rw e)
 
-  pub next-decoded : (w : ℕ) → 4 ≤ length bytes → n < length now → length now ≡ length words →
+  pub next_decoded : (w : ℕ) → 4 ≤ length bytes → n < length now → length now ≡ length words →
       w ≡ word_of (get_or bytes 0 0) (get_or bytes 1 0) (get_or bytes 2 0) (get_or bytes 3 0) →
       Reading ws words (n + 1) (set now n w) (take (length bytes - 4) (drop 4 bytes))
-  next-decoded w h lt z e =
+  next_decoded w h lt z e =
       let next = done.left ∙ next_word bytes h in
       let some : n < length ws = omega (arith, ap length next, length-drop n ws) in
       let both : get_or ws n 0 ∷ drop (suc n) ws ≡ w ∷ words_in (drop 4 bytes) = sym (drop-cons ws n 0 some) ∙ next ∙ rw e in
@@ -97,138 +97,138 @@ module _ (file words bytes now : List ℕ) (n : ℕ) (done : Reading (words_in f
         left = rw (add-one, rest bytes 4) then;
       }
 
-pub ruleset decodes = (all-decoded, no-room-left, next-decoded)
+pub ruleset decodes = (all_decoded, no_room_left, next_decoded)
 
 -- what stands in the slice then
-module _ (i : ℕ) (bytes words : List ℕ) (n : ℕ) (words' : List ℕ) (E : asDecoded n words' ≡ decodedOf i bytes words) where
-  pub decoded-words : take n words' ≡ take (length words) (drop i (words_in bytes))
-  unfolding decodedOf
-  decoded-words =
+module _ (i : ℕ) (bytes words : List ℕ) (n : ℕ) (words' : List ℕ) (E : as_decoded n words' ≡ decoded_of i bytes words) where
+  pub decoded_words : take n words' ≡ take (length words) (drop i (words_in bytes))
+  unfolding decoded_of
+  decoded_words =
       rw (ap (λ (D : Decoded). D.count) E, ap (λ (D : Decoded). D.words) E)
       (take-append_seam (take (length words) (drop i (words_in bytes))) _)
 
-  pub decoded-room : n ≤ length words'
-  unfolding decodedOf
-  decoded-room = rw (ap (λ (D : Decoded). D.count) E, ap (λ (D : Decoded). D.words) E, length-append) (omega arith)
+  pub decoded_room : n ≤ length words'
+  unfolding decoded_of
+  decoded_room = rw (ap (λ (D : Decoded). D.count) E, ap (λ (D : Decoded). D.words) E, length-append) (omega arith)
 
-  pub decoded-count : n ≡ length (take n words')
-  decoded-count = sym (length-take-le n words' decoded-room)
+  pub decoded_count : n ≡ length (take n words')
+  decoded_count = sym (length-take-le n words' decoded_room)
 
 -- from word number i on
-from-drop : (n i : ℕ) (b : List ℕ) → i ≤ n → wordsFrom (n - i) (drop (4 * i) b) ≡ drop i (wordsFrom n b)
-from-drop n zero b h = (let e : n - zero ≡ n = omega arith in rw e)
-from-drop zero (suc i) b h = absurd (omega arith)
-from-drop (suc n) (suc i) b h =
+from_drop : (n i : ℕ) (b : List ℕ) → i ≤ n → words_from (n - i) (drop (4 * i) b) ≡ drop i (words_from n b)
+from_drop n zero b h = (let e : n - zero ≡ n = omega arith in rw e)
+from_drop zero (suc i) b h = absurd (omega arith)
+from_drop (suc n) (suc i) b h =
     let e : 4 * suc i ≡ 4 + 4 * i = omega arith in
     let f : suc n - suc i ≡ n - i = omega arith in
-    rw (e, f, ← drop-drop (4 * i) 4 b) (from-drop n i (drop 4 b) (omega arith))
+    rw (e, f, ← drop-drop (4 * i) 4 b) (from_drop n i (drop 4 b) (omega arith))
 
-pub words-drop : (b : List ℕ) (i : ℕ) → i ≤ length b / 4 → words_in (drop (4 * i) b) ≡ drop i (words_in b)
+pub words_drop : (b : List ℕ) (i : ℕ) → i ≤ length b / 4 → words_in (drop (4 * i) b) ≡ drop i (words_in b)
 unfolding words_in
-words-drop b i h =
+words_drop b i h =
     let e : (length b - 4 * i) / 4 ≡ length b / 4 - i = omega arith in
-    rw (length-drop (4 * i) b, e) (from-drop (length b / 4) i b h)
+    rw (length-drop (4 * i) b, e) (from_drop (length b / 4) i b h)
 
 module _ (b : List ℕ) (i : ℕ) (words : List ℕ) where
-  pub none_from : length b / 4 < i → asDecoded 0 words ≡ decodedOf i b words
-  unfolding decodedOf
+  pub none_from : length b / 4 < i → as_decoded 0 words ≡ decoded_of i b words
+  unfolding decoded_of
   none_from h = rw (drop_of_length-le (words_in b) {i = i} (rw (in_words b) (omega arith)), take-nil (length words))
 
-  pub some-from : (n : ℕ) (part words' : List ℕ) → i ≤ length b / 4 → part ≡ drop (4 * i) b →
-      asDecoded n words' ≡ decodedOf 0 part words → asDecoded n words' ≡ decodedOf i b words
-  unfolding decodedOf
-  some-from n part words' h f e = rw (f, words-drop b i h) at e
+  pub some_from : (n : ℕ) (part words' : List ℕ) → i ≤ length b / 4 → part ≡ drop (4 * i) b →
+      as_decoded n words' ≡ decoded_of 0 part words → as_decoded n words' ≡ decoded_of i b words
+  unfolding decoded_of
+  some_from n part words' h f e = rw (f, words_drop b i h) at e
 
-pub ruleset froms = (none_from, some-from, rest)
+pub ruleset froms = (none_from, some_from, rest)
 
 -- ---- encoding
-pub four-set : (b : List ℕ) (at x y z w : ℕ) →
+pub four_set : (b : List ℕ) (at x y z w : ℕ) →
     set (set (set (set b at x) (at + 1) y) (at + 2) z) (at + 3) w ≡ sets b at (x ∷ y ∷ z ∷ w ∷ [])
-four-set b at x y z w =
+four_set b at x y z w =
     let e : at + 2 ≡ suc (suc at) = omega arith in
     let f : at + 3 ≡ suc (suc (suc at)) = omega arith in
     rw (add-one at, e, f)
 
 -- the first i words are put
-pub length-bytes : (ws : List ℕ) → length (bytes_of ws) ≡ 4 * length ws
-length-bytes [] = refl
-length-bytes (w ∷ ws) = (let e = length-bytes ws in omega arith)
+pub length_bytes : (ws : List ℕ) → length (bytes_of ws) ≡ 4 * length ws
+length_bytes [] = refl
+length_bytes (w ∷ ws) = (let e = length_bytes ws in omega arith)
 
-pub bytes-append : (us ws : List ℕ) → bytes_of (us ++ ws) ≡ bytes_of us ++ bytes_of ws
-bytes-append [] ws = refl
-bytes-append (u ∷ us) ws = ap (λ (s : List ℕ). bytesIn u ++ s) (bytes-append us ws)
+pub bytes_append : (us ws : List ℕ) → bytes_of (us ++ ws) ≡ bytes_of us ++ bytes_of ws
+bytes_append [] ws = refl
+bytes_append (u ∷ us) ws = ap (λ (s : List ℕ). bytes_in u ++ s) (bytes_append us ws)
 
 abbrev pub begun : List ℕ → List ℕ → ℕ → List ℕ
 begun ws bytes i = bytes_of (take i ws) ++ drop (4 * i) bytes
 
 module _ (ws bytes : List ℕ) where
-  pub none-put : length bytes / 4 < length ws → bytes ≡ putWords ws bytes
-  unfolding putWords
-  none-put h = rw (lt-leb (4 * length ws) (length bytes) (omega arith))
+  pub none_put : length bytes / 4 < length ws → bytes ≡ put_words ws bytes
+  unfolding put_words
+  none_put h = rw (lt-leb (4 * length ws) (length bytes) (omega arith))
 
   module _ (i : ℕ) (now : List ℕ) (done : now ≡ begun ws bytes i) (room : 4 * length ws ≤ length bytes) where
-    pub all-put : length ws ≤ i → i ≤ length ws → now ≡ putWords ws bytes
-    unfolding putWords
-    all-put h k =
+    pub all_put : length ws ≤ i → i ≤ length ws → now ≡ put_words ws bytes
+    unfolding put_words
+    all_put h k =
         let e : i ≡ length ws = omega arith in
         rw (le-leb (4 * length ws) (length bytes) room) (rw (e, take_all (length ws) ws (omega arith)) at done)
 
     module _ (some : i < length ws) where
       prefix : length (bytes_of (take i ws)) ≡ 4 * i
-      prefix = length-bytes (take i ws) ∙ ap (λ (k : ℕ). 4 * k) (length-take-le i ws (omega arith))
+      prefix = length_bytes (take i ws) ∙ ap (λ (k : ℕ). 4 * k) (length-take-le i ws (omega arith))
 
       pub long : 4 * i + 4 ≤ length now
       long = rw (done, length-append, prefix, length-drop) (omega arith)
 
-      pub one-put : (w : ℕ) (next : List ℕ) → w ≡ get_or ws i 0 → next ≡ sets now (4 * i) (bytesIn w) → next ≡ begun ws bytes (i + 1)
-      one-put w next f e =
+      pub one_put : (w : ℕ) (next : List ℕ) → w ≡ get_or ws i 0 → next ≡ sets now (4 * i) (bytes_in w) → next ≡ begun ws bytes (i + 1)
+      one_put w next f e =
           let P : List ℕ = bytes_of (take i ws) in
           let D : List ℕ = drop (4 * i) bytes in
-          e ∙ sets-eq (bytesIn w) now (4 * i) long
+          e ∙ sets-eq (bytes_in w) now (4 * i) long
           ∙ rw (done, take_at P D (4 * i) prefix, f)
           (let g : drop (4 * i + 4) (P ++ D) ≡ drop (4 * (i + 1)) bytes =
           ap (λ (k : ℕ). drop (k + 4) (P ++ D)) (sym prefix) ∙ drop-append-add P D 4 ∙ drop-drop 4 (4 * i) bytes
           ∙ ap (λ (k : ℕ). drop k bytes) (let a : 4 * i + 4 ≡ 4 * (i + 1) = omega arith in a) in
-          rw (g, add-one, take-suc ws i 0 some, bytes-append))
+          rw (g, add-one, take-suc ws i 0 some, bytes_append))
 
-pub ruleset encodes = (none-put, all-put, long, one-put)
+pub ruleset encodes = (none_put, all_put, long, one_put)
 
 -- from word number i on
-no_place : (ws : List ℕ) → putWords ws [] ≡ []
-unfolding putWords
+no_place : (ws : List ℕ) → put_words ws [] ≡ []
+unfolding put_words
 no_place [] = refl
 no_place (w ∷ ws) = rw (lt-leb (4 * suc (length ws)) 0 (omega arith))
 
 module _ (ws bytes : List ℕ) (i : ℕ) where
-  pub none-at : length bytes / 4 < i → bytes ≡ putWordsAt i ws bytes
-  none-at h =
+  pub none_at : length bytes / 4 < i → bytes ≡ put_words_at i ws bytes
+  none_at h =
       rw (take_all (4 * i) bytes (omega arith), drop_of_length-le bytes {i = 4 * i} (omega arith), no_place ws)
       (sym (append-nil bytes))
 
-  pub some_at : (part : List ℕ) → part ≡ putWords ws (take (length bytes - 4 * i) (drop (4 * i) bytes)) →
-      take (4 * i) bytes ++ (part ++ drop (length bytes - 4 * i) (drop (4 * i) bytes)) ≡ putWordsAt i ws bytes
+  pub some_at : (part : List ℕ) → part ≡ put_words ws (take (length bytes - 4 * i) (drop (4 * i) bytes)) →
+      take (4 * i) bytes ++ (part ++ drop (length bytes - 4 * i) (drop (4 * i) bytes)) ≡ put_words_at i ws bytes
   some_at part e =
       let none = drop_of_length-le (drop (4 * i) bytes) {i = length bytes - 4 * i} (simp length-drop (omega arith)) in
       rw (none, append-nil part, e, rest bytes (4 * i))
 
-pub ruleset ats = (none-at, some_at)
+pub ruleset ats = (none_at, some_at)
 
 -- words put after words are put at once
-pub put-twice : (i : ℕ) (us ws bytes : List ℕ) → 4 * (i + (length us + length ws)) ≤ length bytes →
-    putWordsAt (i + length us) ws (putWordsAt i us bytes) ≡ putWordsAt i (us ++ ws) bytes
-unfolding putWords
-put-twice i us ws bytes h =
+pub put_twice : (i : ℕ) (us ws bytes : List ℕ) → 4 * (i + (length us + length ws)) ≤ length bytes →
+    put_words_at (i + length us) ws (put_words_at i us bytes) ≡ put_words_at i (us ++ ws) bytes
+unfolding put_words
+put_twice i us ws bytes h =
     let D : List ℕ = drop (4 * i) bytes in
     let E : List ℕ = drop (4 * length us) D in
     let P : List ℕ = take (4 * i) bytes ++ bytes_of us in
     let n : ℕ = 4 * (i + length us) in
     let d : length D ≡ length bytes - 4 * i = length-drop (4 * i) bytes in
-    let p : length P ≡ n = length-append (take (4 * i) bytes) (bytes_of us) ∙ (let a = length-take-le (4 * i) bytes (omega arith) in let b = length-bytes us in omega arith) in
-    let e : putWordsAt i us bytes ≡ P ++ E =
+    let p : length P ≡ n = length-append (take (4 * i) bytes) (bytes_of us) ∙ (let a = length-take-le (4 * i) bytes (omega arith) in let b = length_bytes us in omega arith) in
+    let e : put_words_at i us bytes ≡ P ++ E =
     rw (le-leb (4 * length us) (length D) (rw d (omega arith))) (sym (append_assoc (take (4 * i) bytes) (bytes_of us) E)) in
-    let f : putWords ws E ≡ bytes_of ws ++ drop (4 * length ws) E =
+    let f : put_words ws E ≡ bytes_of ws ++ drop (4 * length ws) E =
     rw (le-leb (4 * length ws) (length E) (rw (length-drop (4 * length us) D, d) (omega arith))) in
     let g : drop (4 * length ws) E ≡ drop (4 * length (us ++ ws)) D =
     drop-drop (4 * length ws) (4 * length us) D ∙ rw (length-append us ws, (let a : 4 * length us + 4 * length ws ≡ 4 * (length us + length ws) = omega arith in a)) in
-    rw (e, take_at P E n p, drop_at P E n p, f, g, le-leb (4 * length (us ++ ws)) (length D) (rw (length-append us ws, d) (omega arith)), bytes-append us ws)
+    rw (e, take_at P E n p, drop_at P E n p, f, g, le-leb (4 * length (us ++ ws)) (length D) (rw (length-append us ws, d) (omega arith)), bytes_append us ws)
     (simp append_assoc)

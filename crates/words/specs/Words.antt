@@ -5,12 +5,12 @@ abbrev pub word_of : ℕ → ℕ → ℕ → ℕ → ℕ
 word_of a b c d = a + 256 * b + 65536 * c + 16777216 * d
 
 -- the first n words of bytes, and all whole ones
-abbrev pub wordsFrom : ℕ → List ℕ → List ℕ
-wordsFrom zero bytes = []
-wordsFrom (suc n) bytes = word_of (get_or bytes 0 0) (get_or bytes 1 0) (get_or bytes 2 0) (get_or bytes 3 0) ∷ wordsFrom n (drop 4 bytes)
+abbrev pub words_from : ℕ → List ℕ → List ℕ
+words_from zero bytes = []
+words_from (suc n) bytes = word_of (get_or bytes 0 0) (get_or bytes 1 0) (get_or bytes 2 0) (get_or bytes 3 0) ∷ words_from n (drop 4 bytes)
 
 unfoldable pub words_in : List ℕ → List ℕ
-words_in bytes = wordsFrom (length bytes / 4) bytes
+words_in bytes = words_from (length bytes / 4) bytes
 
 -- word number i, 0 past the last
 abbrev pub word_at : List ℕ → ℕ → ℕ
@@ -21,29 +21,29 @@ pub record Decoded : Type 0 where
   pub count : ℕ
   pub words : List ℕ
 
-abbrev pub asDecoded : ℕ → List ℕ → Decoded
-asDecoded n words = record { count = n; words = words }
+abbrev pub as_decoded : ℕ → List ℕ → Decoded
+as_decoded n words = record { count = n; words = words }
 
-unfoldable pub decodedOf : ℕ → List ℕ → List ℕ → Decoded
-decodedOf i bytes words =
+unfoldable pub decoded_of : ℕ → List ℕ → List ℕ → Decoded
+decoded_of i bytes words =
     let ws : List ℕ = take (length words) (drop i (words_in bytes)) in
     record { count = length ws; words = ws ++ drop (length ws) words }
 
 -- the bytes of a word, and of words one after the other
-abbrev pub bytesIn : ℕ → List ℕ
-bytesIn w = w % 256 ∷ w / 256 % 256 ∷ w / 65536 % 256 ∷ w / 16777216 % 256 ∷ []
+abbrev pub bytes_in : ℕ → List ℕ
+bytes_in w = w % 256 ∷ w / 256 % 256 ∷ w / 65536 % 256 ∷ w / 16777216 % 256 ∷ []
 
 abbrev pub bytes_of : List ℕ → List ℕ
 bytes_of [] = []
-bytes_of (w ∷ ws) = bytesIn w ++ bytes_of ws
+bytes_of (w ∷ ws) = bytes_in w ++ bytes_of ws
 
 -- words put at the start of bytes, if there is room for all of them
-unfoldable pub putWords : List ℕ → List ℕ → List ℕ
-putWords ws bytes = cond (leb (4 * length ws) (length bytes)) (bytes_of ws ++ drop (4 * length ws) bytes) bytes
+unfoldable pub put_words : List ℕ → List ℕ → List ℕ
+put_words ws bytes = cond (leb (4 * length ws) (length bytes)) (bytes_of ws ++ drop (4 * length ws) bytes) bytes
 
 -- and put from word number i on
-abbrev pub putWordsAt : ℕ → List ℕ → List ℕ → List ℕ
-putWordsAt i ws bytes = take (4 * i) bytes ++ putWords ws (drop (4 * i) bytes)
+abbrev pub put_words_at : ℕ → List ℕ → List ℕ → List ℕ
+put_words_at i ws bytes = take (4 * i) bytes ++ put_words ws (drop (4 * i) bytes)
 
 -- Every number of a list is below n: below 256 they are bytes, below 4294967296 words.
 abbrev pub Below : ℕ → List ℕ → Type 0

@@ -1,7 +1,7 @@
 // Little-endian words in byte slices. Bytes after the last whole word are not looked at.
 ghost use Rattle.std.specs.Prelude.{◌≡◌, ◌+◌, ◌*◌, ◌≤◌, length};
 ghost use Rattle.std.proofs.lemmas.List.Edits.{sets};
-ghost use Rattle.words.specs.Words.{word_of, word_at, asDecoded, decodedOf, bytesIn, putWords, putWordsAt};
+ghost use Rattle.words.specs.Words.{word_of, word_at, as_decoded, decoded_of, bytes_in, put_words, put_words_at};
 
 fn word_of(a: u8, b: u8, c: u8, d: u8) -> u32
     ensures { result ≡ word_of a b c d }
@@ -22,7 +22,7 @@ pub fn get(bytes: &[u8], i: usize) -> u32
 
 // Puts the words of `bytes` at the start of `words`, as many as there is room for, and says how many.
 pub fn decode(bytes: &[u8], words: &mut [u32]) -> usize
-    ensures { asDecoded result words.new ≡ decodedOf 0 bytes.now words.old }
+    ensures { as_decoded result words.new ≡ decoded_of 0 bytes.now words.old }
 {
     let mut n = 0;
     let mut rest = bytes;
@@ -39,7 +39,7 @@ pub fn decode(bytes: &[u8], words: &mut [u32]) -> usize
 
 // As `decode`, from word number i on.
 pub fn decode_from(bytes: &[u8], i: usize, words: &mut [u32]) -> usize
-    ensures { asDecoded result words.new ≡ decodedOf i bytes.now words.old }
+    ensures { as_decoded result words.new ≡ decoded_of i bytes.now words.old }
 {
     if bytes.len() / 4 < i {
         return 0;
@@ -49,7 +49,7 @@ pub fn decode_from(bytes: &[u8], i: usize, words: &mut [u32]) -> usize
 
 fn put(bytes: &mut [u8], at: usize, w: u32)
     requires { at + 4 ≤ length bytes.old }
-    ensures { bytes.new ≡ sets bytes.old at (bytesIn w) }
+    ensures { bytes.new ≡ sets bytes.old at (bytes_in w) }
 {
     bytes[at] = (w % 256) as u8;
     bytes[at + 1] = (w / 256 % 256) as u8;
@@ -59,7 +59,7 @@ fn put(bytes: &mut [u8], at: usize, w: u32)
 
 // Puts the words at the start of `bytes`, all of them or, where there is no room, none.
 pub fn encode(words: &[u32], bytes: &mut [u8])
-    ensures { bytes.new ≡ putWords words.now bytes.old }
+    ensures { bytes.new ≡ put_words words.now bytes.old }
 {
     let n = words.len();
     if bytes.len() / 4 < n {
@@ -74,7 +74,7 @@ pub fn encode(words: &[u32], bytes: &mut [u8])
 
 // As `encode`, with the first word put as word number i.
 pub fn encode_at(words: &[u32], i: usize, bytes: &mut [u8])
-    ensures { bytes.new ≡ putWordsAt i words.now bytes.old }
+    ensures { bytes.new ≡ put_words_at i words.now bytes.old }
 {
     if bytes.len() / 4 < i {
         return;

@@ -3,8 +3,8 @@ use borrow.Author.Rules.{rules}
 use Rattle.access.proofs.access.Statement.{statement}
 use Rattle.access.proofs.access.Tie as tie
 
-pub access-spec : {M : Type 1} → statement M
-access-spec =
+pub access_spec : {M : Type 1} → statement M
+access_spec =
     tie.close
     (tie.spec
     (λ c. search rules)

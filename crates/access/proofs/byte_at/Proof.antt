@@ -5,16 +5,16 @@ use lib.ListN.{get_or-eq_default}
 use native.Mathlib.Omega.{arith}
 use Rattle.fields.specs.Field.{put_of}
 use Rattle.fields.proofs.Laws.{put_on}
-use Rattle.registers.specs.Places.{TXDR-TXDATA}
+use Rattle.registers.specs.Places.{TXDR_TXDATA}
 use borrow.Author.Rules.{rules}
 use Rattle.access.proofs.byte_at.Statement.{statement}
 use Rattle.access.proofs.byte_at.Tie as tie
 
-whole : (byte : ℕ) → byte < 256 → put_of 0 TXDR-TXDATA byte ≡ byte
-whole byte h = put_on 0 TXDR-TXDATA byte tt (omega arith) h ∙ omega arith
+whole : (byte : ℕ) → byte < 256 → put_of 0 TXDR_TXDATA byte ≡ byte
+whole byte h = put_on 0 TXDR_TXDATA byte tt (omega arith) h ∙ omega arith
 
-pub byte-at-spec : {M : Type 1} → statement M
-byte-at-spec =
+pub byte_at_spec : {M : Type 1} → statement M
+byte_at_spec =
     tie.close
     (tie.spec
     (λ c. search rules)

@@ -6,8 +6,8 @@ use borrow.Author.Rules.{rules}
 use Rattle.access.proofs.byte_out.Statement.{statement}
 use Rattle.access.proofs.byte_out.Tie as tie
 
-pub byte-out-spec : {M : Type 1} → statement M
-byte-out-spec =
+pub byte_out_spec : {M : Type 1} → statement M
+byte_out_spec =
     tie.close
     (tie.spec
     (λ c κs. search rules)

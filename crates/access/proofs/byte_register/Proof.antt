@@ -2,8 +2,8 @@
 use Rattle.access.proofs.byte_register.Statement.{statement}
 use Rattle.access.proofs.byte_register.Tie as tie
 
-pub byte-register-spec : {M : Type 1} → statement M
-byte-register-spec =
+pub byte_register_spec : {M : Type 1} → statement M
+byte_register_spec =
     tie.close
     (tie.spec
     (λ c b s. rw c.if1.true)

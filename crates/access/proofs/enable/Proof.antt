@@ -3,8 +3,8 @@ use borrow.Author.Rules.{rules}
 use Rattle.access.proofs.enable.Statement.{statement}
 use Rattle.access.proofs.enable.Tie as tie
 
-pub enable-spec : {M : Type 1} → statement M
-enable-spec =
+pub enable_spec : {M : Type 1} → statement M
+enable_spec =
     tie.close
     (tie.spec
     (λ c κs. search rules)

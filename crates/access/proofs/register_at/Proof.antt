@@ -3,8 +3,8 @@ use borrow.Author.Rules.{rules}
 use Rattle.access.proofs.register_at.Statement.{statement}
 use Rattle.access.proofs.register_at.Tie as tie
 
-pub register-at-spec : {M : Type 1} → statement M
-register-at-spec =
+pub register_at_spec : {M : Type 1} → statement M
+register_at_spec =
     tie.close
     (tie.spec
     (λ c. search rules)

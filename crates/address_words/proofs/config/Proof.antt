@@ -3,7 +3,7 @@ use Prim.Native.Nat.{ℕ}
 use mathlib.Core.Path.{◌≡◌, refl, ◌∙◌}
 use mathlib.Core.Bool.{Bool, true, false, cond, not}
 use lib.Dec.{eqb}
-use Rattle.calls.specs.Calls.{configOf, withOwn, withMode, withSecondary, withMask}
+use Rattle.calls.specs.Calls.{config_of, with_own, with_mode, with_secondary, with_mask}
 use Rattle.calls.specs.declared.AddressMode.{AddressMode}
 use Rattle.calls.specs.declared.MaskBits.TheVariants.{Unmasked, Masked}
 use Rattle.calls.specs.declared.SecondaryAddress.TheVariants.{NoSecondary, Secondary}
@@ -13,18 +13,18 @@ use Rattle.address_words.specs.Words.{none, mode_of}
 use Rattle.address_words.proofs.config.Statement.{statement}
 use Rattle.address_words.proofs.config.Tie as tie
 
-set-unless : (own secondary mask : ℕ) (mode : AddressMode) (a b : Bool) →
-    let t : TargetConfig = withMode mode (withOwn own (configOf 0)) in
-    let u : TargetConfig = cond a t (withSecondary secondary t) in
-    cond b u (withMask mask u)
+set_unless : (own secondary mask : ℕ) (mode : AddressMode) (a b : Bool) →
+    let t : TargetConfig = with_mode mode (with_own own (config_of 0)) in
+    let u : TargetConfig = cond a t (with_secondary secondary t) in
+    cond b u (with_mask mask u)
     ≡ record { own = own; secondary = cond a NoSecondary (Secondary secondary); mask = cond b Unmasked (Masked mask); mode = mode }
-set-unless own secondary mask mode true true = refl
-set-unless own secondary mask mode true false = refl
-set-unless own secondary mask mode false true = refl
-set-unless own secondary mask mode false false = refl
+set_unless own secondary mask mode true true = refl
+set_unless own secondary mask mode true false = refl
+set_unless own secondary mask mode false true = refl
+set_unless own secondary mask mode false false = refl
 
-pub config-spec : {M : Type 1} → statement M
-config-spec =
+pub config_spec : {M : Type 1} → statement M
+config_spec =
     tie.close
     (tie.spec
     (λ c κs. search rules)
@@ -44,4 +44,4 @@ config-spec =
       e.own-address.ensures,
       e.before.new.ensures,
     )
-    (set-unless w.own w.secondary w.mask (mode_of (not (eqb w.ten 0))) (eqb w.secondary none) (eqb w.mask none))))
+    (set_unless w.own w.secondary w.mask (mode_of (not (eqb w.ten 0))) (eqb w.secondary none) (eqb w.mask none))))

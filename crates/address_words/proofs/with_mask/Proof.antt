@@ -4,8 +4,8 @@ use borrow.Author.Tests.{eq-eqb, ne_eqb}
 use Rattle.address_words.proofs.with_mask.Statement.{statement}
 use Rattle.address_words.proofs.with_mask.Tie as tie
 
-pub with-mask-spec : {M : Type 1} → statement M
-with-mask-spec =
+pub with_mask_spec : {M : Type 1} → statement M
+with_mask_spec =
     tie.close
     (tie.spec
     (λ c. rw (eq-eqb _ _ c.if1.true))

@@ -4,8 +4,8 @@ use borrow.Author.Tests.{eq-eqb, ne_eqb}
 use Rattle.address_words.proofs.with_secondary.Statement.{statement}
 use Rattle.address_words.proofs.with_secondary.Tie as tie
 
-pub with-secondary-spec : {M : Type 1} → statement M
-with-secondary-spec =
+pub with_secondary_spec : {M : Type 1} → statement M
+with_secondary_spec =
     tie.close
     (tie.spec
     (λ c. rw (eq-eqb _ _ c.if1.true))

@@ -2,16 +2,16 @@
 use Rattle.advance_bytes.proofs.advance.Statement.{statement}
 use Rattle.advance_bytes.proofs.advance.Tie as tie
 use borrow.Author.Rules.{rules}
-use Rattle.words.proofs.Turns.{decoded-room, decoded-count}
+use Rattle.words.proofs.Turns.{decoded_room, decoded_count}
 use Rattle.advance_bytes.proofs.Pieces.{read_through}
 
-pub advance-spec : {M : Type 1} → statement M
-advance-spec =
+pub advance_spec : {M : Type 1} → statement M
+advance_spec =
     tie.close
     (tie.spec
     (λ c κs. search rules)
-    (λ c. search (rules, decoded-room))
-    (λ c. search (rules, decoded-count))
+    (λ c. search (rules, decoded_room))
+    (λ c. search (rules, decoded_count))
     (λ c κs. search rules)
     (λ c. search rules)
     (λ c. search rules)

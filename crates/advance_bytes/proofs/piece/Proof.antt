@@ -7,25 +7,25 @@ use mathlib.Core.Path.{refl}
 use Prim.Native.Nat.{◌-◌, ◌*◌, ◌/◌}
 use lib.ListN.{length, take, drop, length-drop}
 use lib.Seq.{length_front}
-use Rattle.calls.proofs.Reached.{few, some-used, in-log, counted, added}
+use Rattle.calls.proofs.Reached.{few, some_used, in_log, counted, added}
 use Rattle.words.proofs.Turns.{in_words}
 use Rattle.words.specs.Words.{words_in}
-use Rattle.advance_bytes.specs.Pieces.{inBytes}
-use Rattle.advance_bytes.proofs.Pieces.{places-counted, places-lent}
+use Rattle.advance_bytes.specs.Pieces.{in_bytes}
+use Rattle.advance_bytes.proofs.Pieces.{places_counted, places_lent}
 
-pub piece-spec : {M : Type 1} → statement M
-piece-spec =
+pub piece_spec : {M : Type 1} → statement M
+piece_spec =
     tie.close
     (tie.spec
     (λ c. search rules)
     (λ c κs. search rules)
     (λ c. search rules)
     (λ c. search rules)
-    (λ c. places-counted _ _ _ c.before.before.before.least.ensures)
+    (λ c. places_counted _ _ _ c.before.before.before.least.ensures)
     (λ c κs.
     let start = c.before.before.before.before.before.before.before.before.before.before.before in
     let a = start.args in
-    omega (arith, places-lent a.entries.now _ (length a.log.now / 8 - a.t.written) c.before.before.before.least.ensures, start.requires.2))
+    omega (arith, places_lent a.entries.now _ (length a.log.now / 8 - a.t.written) c.before.before.before.least.ensures, start.requires.2))
     (λ c.
     let v = c.before.before.before.before.before.before.before in
     let start = v.before.before.before.before.before.before.before.before.before.before.before.before in
@@ -35,14 +35,14 @@ piece-spec =
           omega (
             arith,
             few a.d a.ops.now a.t a.buffer.now (drop a.t.used (words_in a.answers.now)) (take (2 * v.before.before.before.before.least.result) a.entries.now) v.advance.result _ _ v.advance.ensures,
-            places-lent a.entries.now _ (length a.log.now / 8 - a.t.written) v.before.before.before.before.least.ensures,
+            places_lent a.entries.now _ (length a.log.now / 8 - a.t.written) v.before.before.before.before.least.ensures,
             start.well-formed.1.1.1.1.1.1.1.0.0,
           );
     })
     (λ c.
     let v = c.before.before.before.before.before.before.before in
     let a = v.before.before.before.before.before.before.before.before.before.before.before.before.args in
-    in-log a.d a.ops.now a.t a.buffer.now (drop a.t.used (words_in a.answers.now)) (take (2 * v.before.before.before.before.least.result) a.entries.now) v.advance.result _ _ v.advance.ensures _ _ refl)
+    in_log a.d a.ops.now a.t a.buffer.now (drop a.t.used (words_in a.answers.now)) (take (2 * v.before.before.before.before.least.result) a.entries.now) v.advance.result _ _ v.advance.ensures _ _ refl)
     (λ c.
     let v = c.before.before.before.before.before.before.before.before in
     let a = v.before.before.before.before.before.before.before.before.before.before.before.before.args in
@@ -57,7 +57,7 @@ piece-spec =
       fits =
           omega (
             arith,
-            some-used a.d a.ops.now a.t a.buffer.now (drop a.t.used (words_in a.answers.now)) (take (2 * v.before.before.before.before.least.result) a.entries.now) v.advance.result _ _ v.advance.ensures,
+            some_used a.d a.ops.now a.t a.buffer.now (drop a.t.used (words_in a.answers.now)) (take (2 * v.before.before.before.before.least.result) a.entries.now) v.advance.result _ _ v.advance.ensures,
             length-drop a.t.used (words_in a.answers.now),
             in_words a.answers.now,
             start.requires.0,
@@ -73,7 +73,7 @@ piece-spec =
           omega (
             arith,
             few a.d a.ops.now a.t a.buffer.now (drop a.t.used (words_in a.answers.now)) (take (2 * v.before.before.before.before.least.result) a.entries.now) v.advance.result _ _ v.advance.ensures,
-            places-lent a.entries.now _ (length a.log.now / 8 - a.t.written) v.before.before.before.before.least.ensures,
+            places_lent a.entries.now _ (length a.log.now / 8 - a.t.written) v.before.before.before.before.least.ensures,
             start.requires.1,
             start.well-formed.1.1.1.1.1.0.0,
           );
@@ -85,5 +85,5 @@ piece-spec =
     (λ c.
     let v = c.before.before.before.before.before.before.before.before.before.before.before.before.before.before.before.before.before.before in
     let a = v.before.before.before.before.before.before.before.before.before.before.before.before.args in
-    added a.d a.ops.now a.t a.buffer.now (drop a.t.used (words_in a.answers.now)) (take (2 * v.before.before.before.before.least.result) a.entries.now) v.advance.result _ _ v.advance.ensures _ _ refl inBytes a.log.now _ c.before.before.before.before.before.before.before.encode-at.ensures
-    (words_in a.answers.now) _ refl (places-lent _ _ _ v.before.before.before.before.least.ensures)))
+    added a.d a.ops.now a.t a.buffer.now (drop a.t.used (words_in a.answers.now)) (take (2 * v.before.before.before.before.least.result) a.entries.now) v.advance.result _ _ v.advance.ensures _ _ refl in_bytes a.log.now _ c.before.before.before.before.before.before.before.encode-at.ensures
+    (words_in a.answers.now) _ refl (places_lent _ _ _ v.before.before.before.before.least.ensures)))

@@ -9,10 +9,10 @@ use mathlib.Core.Bool.{true}
 use lib.ListN.{length}
 use borrow.Author.Tests.{not-true, not-false}
 use Rattle.calls.proofs.Reached.{some_left, none_left}
-use Rattle.calls.specs.Joined.{isFull, asReached, restFrom}
+use Rattle.calls.specs.Joined.{is_full, as_reached, rest_from}
 use Rattle.words.specs.Words.{words_in}
-use Rattle.advance_bytes.specs.Pieces.{inBytes}
-use Rattle.advance_bytes.proofs.Pieces.{turn-used, turn-written, turn-less, turn-ends, turn-goes}
+use Rattle.advance_bytes.specs.Pieces.{in_bytes}
+use Rattle.advance_bytes.proofs.Pieces.{turn_used, turn_written, turn_less, turn_ends, turn_goes}
 
 abbrev invariant-loop : tie.invariant-loop
 invariant-loop d ops buffer₀ answers log₀ window₀ entries₀ t₀ left₀ buffer log window entries t left =
@@ -23,14 +23,14 @@ invariant-loop d ops buffer₀ answers log₀ window₀ entries₀ t₀ left₀ 
     (length log ≡ length log₀) ×
     (length window ≡ 128) ×
     (length entries ≡ 256) ×
-    (isFull t.report ≡ true) ×
-    (restFrom inBytes d ops (words_in answers) left (asReached t buffer log) ≡ restFrom inBytes d ops (words_in answers) left₀ (asReached t₀ buffer₀ log₀))
+    (is_full t.report ≡ true) ×
+    (rest_from in_bytes d ops (words_in answers) left (as_reached t buffer log) ≡ rest_from in_bytes d ops (words_in answers) left₀ (as_reached t₀ buffer₀ log₀))
 
 abbrev decreases-loop : tie.decreases-loop
 decreases-loop d ops buffer₀ answers log₀ window₀ entries₀ t₀ left₀ buffer log window entries t left = left
 
-pub rest-spec : {M : Type 1} → statement M
-rest-spec =
+pub rest_spec : {M : Type 1} → statement M
+rest_spec =
     tie.close
     (tie.spec
     invariant-loop
@@ -51,22 +51,22 @@ rest-spec =
     let p = c.before.before.before.before.before.before.before.before in
     let i = p.before.before.before.before.before.before.loop in
     let a = p.before.before.before.before.before.before.before.before.before.before.before.before.before.before.args in
-    turn-ends a.d a.ops.now a.answers.now i.t i.buffer i.log p.piece.result _ _ (length i.entries / 2) i.left
+    turn_ends a.d a.ops.now a.answers.now i.t i.buffer i.log p.piece.result _ _ (length i.entries / 2) i.left
     p.piece.ensures i.invariant.2 p.piece.auto.1.1.1.1.1.0 i.invariant.1 _
-    (some_left inBytes a.d a.ops.now (words_in a.answers.now) (asReached i.t i.buffer i.log) _ i.left p.before.before.before.before.before.loop-test.true i.invariant.7 i.invariant.8)
+    (some_left in_bytes a.d a.ops.now (words_in a.answers.now) (as_reached i.t i.buffer i.log) _ i.left p.before.before.before.before.before.loop-test.true i.invariant.7 i.invariant.8)
     (sym c.before.is-full.ensures ∙ not-true c.before.is-full.result c.if1.true))
     (λ c.
     let p = c.before.before.before.before.before.before.before.before.before in
     let i = p.before.before.before.before.before.before.loop in
     let a = p.before.before.before.before.before.before.before.before.before.before.before.before.before.before.args in
-    turn-written a.d a.ops.now a.answers.now i.t i.buffer i.log p.piece.result _ _ (length i.entries / 2) i.left
+    turn_written a.d a.ops.now a.answers.now i.t i.buffer i.log p.piece.result _ _ (length i.entries / 2) i.left
     p.piece.ensures i.invariant.2 p.piece.auto.1.1.1.1.1.0 i.invariant.1)
     (λ c.
     let p = c.before.before.before.before.before.before.before.before.before in
     let i = p.before.before.before.before.before.before.loop in
     let a = p.before.before.before.before.before.before.before.before.before.before.before.before.before.before.args in
     let full = sym c.before.before.is-full.ensures ∙ not-false c.before.before.is-full.result c.before.if1.false in
-    turn-less a.d a.ops.now a.answers.now i.t i.buffer i.log p.piece.result _ _ (length i.entries / 2) i.left
+    turn_less a.d a.ops.now a.answers.now i.t i.buffer i.log p.piece.result _ _ (length i.entries / 2) i.left
     p.piece.ensures i.invariant.2 p.piece.auto.1.1.1.1.1.0 i.invariant.1
     (omega (arith, i.invariant.6)) p.before.before.before.before.before.loop-test.true full)
     (λ c.
@@ -74,9 +74,9 @@ rest-spec =
     let i = p.before.before.before.before.before.before.loop in
     let a = p.before.before.before.before.before.before.before.before.before.before.before.before.before.before.args in
     let full = sym c.before.before.is-full.ensures ∙ not-false c.before.before.is-full.result c.before.if1.false in (
-      turn-used a.d a.ops.now a.answers.now i.t i.buffer i.log p.piece.result _ _ (length i.entries / 2) i.left
+      turn_used a.d a.ops.now a.answers.now i.t i.buffer i.log p.piece.result _ _ (length i.entries / 2) i.left
           p.piece.ensures i.invariant.2 p.piece.auto.1.1.1.1.1.0 i.invariant.1 i.invariant.0,
-      turn-written a.d a.ops.now a.answers.now i.t i.buffer i.log p.piece.result _ _ (length i.entries / 2) i.left
+      turn_written a.d a.ops.now a.answers.now i.t i.buffer i.log p.piece.result _ _ (length i.entries / 2) i.left
           p.piece.ensures i.invariant.2 p.piece.auto.1.1.1.1.1.0 i.invariant.1,
       refl,
       p.piece.auto.1.1.1.0 ∙ i.invariant.3,
@@ -84,9 +84,9 @@ rest-spec =
       p.piece.auto.1.1.1.1.1.1.0 ∙ i.invariant.5,
       p.piece.auto.1.1.1.1.1.1.1.0 ∙ i.invariant.6,
       full,
-      turn-goes a.d a.ops.now a.answers.now i.t i.buffer i.log p.piece.result _ _ (length i.entries / 2) i.left
+      turn_goes a.d a.ops.now a.answers.now i.t i.buffer i.log p.piece.result _ _ (length i.entries / 2) i.left
           p.piece.ensures i.invariant.2 p.piece.auto.1.1.1.1.1.0 i.invariant.1 _
-          (some_left inBytes a.d a.ops.now (words_in a.answers.now) (asReached i.t i.buffer i.log) _ i.left p.before.before.before.before.before.loop-test.true i.invariant.7 i.invariant.8)
+          (some_left in_bytes a.d a.ops.now (words_in a.answers.now) (as_reached i.t i.buffer i.log) _ i.left p.before.before.before.before.before.loop-test.true i.invariant.7 i.invariant.8)
           full,
     ))
     (λ c. search rules)

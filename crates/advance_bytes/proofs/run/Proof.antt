@@ -6,9 +6,9 @@ use Prim.Native.Nat.{◌-◌, ◌/◌}
 use native.Mathlib.Omega.{arith}
 use mathlib.Core.Path.{refl, sym, ◌∙◌}
 use lib.ListN.{length}
-use Rattle.calls.specs.Joined.{notYet}
+use Rattle.calls.specs.Joined.{not_yet}
 use Rattle.words.specs.Words.{words_in}
-use Rattle.advance_bytes.proofs.Pieces.{turn-used, turn-written, turn-ends, turn-goes, first-whole}
+use Rattle.advance_bytes.proofs.Pieces.{turn_used, turn_written, turn_ends, turn_goes, first_whole}
 
 pub run_spec : {M : Type 1} → statement M
 run_spec =
@@ -23,9 +23,9 @@ run_spec =
     (λ c κs.
     let p = c.before.before.before.before.before.before.before.before.before.before in
     let a = p.before.before.before.before.before.before.before.before.before.before.before.args in (
-      turn-used a.d a.ops.now a.answers.now (notYet a.saved) a.buffer.now a.log.now p.piece.result _ _ (length p.before.before.before.before.before.small-log.result / 2) (length a.log.now / 8 - 0)
+      turn_used a.d a.ops.now a.answers.now (not_yet a.saved) a.buffer.now a.log.now p.piece.result _ _ (length p.before.before.before.before.before.small-log.result / 2) (length a.log.now / 8 - 0)
           p.piece.ensures refl p.piece.auto.1.1.1.1.1.0 (omega arith) (omega arith),
-      turn-written a.d a.ops.now a.answers.now (notYet a.saved) a.buffer.now a.log.now p.piece.result _ _ (length p.before.before.before.before.before.small-log.result / 2) (length a.log.now / 8 - 0)
+      turn_written a.d a.ops.now a.answers.now (not_yet a.saved) a.buffer.now a.log.now p.piece.result _ _ (length p.before.before.before.before.before.small-log.result / 2) (length a.log.now / 8 - 0)
           p.piece.ensures refl p.piece.auto.1.1.1.1.1.0 (omega arith),
       sym c.before.before.before.is-full.ensures ∙ c.before.before.if1.true,
     ))
@@ -35,16 +35,16 @@ run_spec =
     let p = c.before.before.before.before.before.before.before.before.before.before.before.before.before.before.before in
     let a = p.before.before.before.before.before.before.before.before.before.before.before.args in
     c.before.before.before.before.rest.ensures
-    ∙ turn-goes a.d a.ops.now a.answers.now (notYet a.saved) a.buffer.now a.log.now p.piece.result _ _ (length p.before.before.before.before.before.small-log.result / 2) (length a.log.now / 8 - 0)
+    ∙ turn_goes a.d a.ops.now a.answers.now (not_yet a.saved) a.buffer.now a.log.now p.piece.result _ _ (length p.before.before.before.before.before.small-log.result / 2) (length a.log.now / 8 - 0)
     p.piece.ensures refl p.piece.auto.1.1.1.1.1.0 (omega arith) _
-    (first-whole a.d a.ops.now (words_in a.answers.now) a.saved a.buffer.now a.log.now)
+    (first_whole a.d a.ops.now (words_in a.answers.now) a.saved a.buffer.now a.log.now)
     (sym c.before.before.before.before.before.before.before.before.is-full.ensures ∙ c.before.before.before.before.before.before.before.if1.true))
     (λ c. search rules)
     (λ c. search rules)
     (λ c.
     let p = c.before.before.before.before.before.before.before.before in
     let a = p.before.before.before.before.before.before.before.before.before.before.before.args in
-    turn-ends a.d a.ops.now a.answers.now (notYet a.saved) a.buffer.now a.log.now p.piece.result _ _ (length p.before.before.before.before.before.small-log.result / 2) (length a.log.now / 8 - 0)
+    turn_ends a.d a.ops.now a.answers.now (not_yet a.saved) a.buffer.now a.log.now p.piece.result _ _ (length p.before.before.before.before.before.small-log.result / 2) (length a.log.now / 8 - 0)
     p.piece.ensures refl p.piece.auto.1.1.1.1.1.0 (omega arith) _
-    (first-whole a.d a.ops.now (words_in a.answers.now) a.saved a.buffer.now a.log.now)
+    (first_whole a.d a.ops.now (words_in a.answers.now) a.saved a.buffer.now a.log.now)
     (sym c.before.is-full.ensures ∙ c.if1.false)))

@@ -1,15 +1,15 @@
 -- `bands::by_found` meets its contract: each return by the tests that led there. Assumes nothing.
 use Rattle.fields.proofs.Tests.{tests}
 use mathlib.Core.Path.{subst}
-use Rattle.bands.specs.Bands.{byFound}
+use Rattle.bands.specs.Bands.{by_found}
 use Rattle.bands.specs.Bounds.{SoundIn}
 use borrow.Author.Rules.{rules}
 use Rattle.bands.proofs.by_found.Statement.{statement}
 use Rattle.bands.proofs.by_found.Tie as tie
 
-pub by-found-spec : {M : Type 1} → statement M
-unfolding byFound
-by-found-spec =
+pub by_found_spec : {M : Type 1} → statement M
+unfolding by_found
+by_found_spec =
     tie.close
     (tie.spec
     (λ c. search (rules, tests))

@@ -4,8 +4,8 @@ use borrow.Author.Rules.{rules}
 use Rattle.bands.proofs.by_row.Statement.{statement}
 use Rattle.bands.proofs.by_row.Tie as tie
 
-pub by-row-spec : {M : Type 1} → statement M
-by-row-spec =
+pub by_row_spec : {M : Type 1} → statement M
+by_row_spec =
     tie.close
     (tie.spec
     (λ c. search rules)

@@ -7,8 +7,8 @@ use borrow.Author.Rules.{rules}
 use Rattle.bands.proofs.divider.Statement.{statement}
 use Rattle.bands.proofs.divider.Tie as tie
 
-pub divider-spec : {M : Type 1} → statement M
-divider-spec =
+pub divider_spec : {M : Type 1} → statement M
+divider_spec =
     tie.close
     (tie.spec
     (λ c. search rules)

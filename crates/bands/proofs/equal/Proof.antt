@@ -1,21 +1,21 @@
 -- `bands::equal` meets its contract: a cycle has at least 4 steps, and each return is by the test that led there. Assumes nothing.
 use native.Mathlib.Omega.{arith}
 use mathlib.Core.Path.{◌∙◌}
-use Rattle.bands.proofs.Quotients.{least-steps}
-use Rattle.bands.proofs.Shapes.{high-over, all_fit}
+use Rattle.bands.proofs.Quotients.{least_steps}
+use Rattle.bands.proofs.Shapes.{high_over, all_fit}
 use Rattle.timing.specs.declared.Shape.TheVariants.{Equal}
 use borrow.Author.Rules.{rules}
 use Rattle.bands.proofs.equal.Statement.{statement}
 use Rattle.bands.proofs.equal.Tie as tie
 
-pub equal-spec : {M : Type 1} → statement M
-equal-spec =
+pub equal_spec : {M : Type 1} → statement M
+equal_spec =
     tie.close
     (tie.spec
     (λ c κs. search rules)
     (λ c. search rules)
-    (λ c. omega (arith, least-steps c.capped.ensures.some c.capped.ensures.few))
-    (λ c. search (rules, high-over))
+    (λ c. omega (arith, least_steps c.capped.ensures.some c.capped.ensures.few))
+    (λ c. search (rules, high_over))
     (λ c. search rules)
     (λ c. search rules)
     (λ c κs. search rules)

@@ -3,8 +3,8 @@ use borrow.Author.Rules.{rules}
 use Rattle.bands.proofs.fields_of.Statement.{statement}
 use Rattle.bands.proofs.fields_of.Tie as tie
 
-pub fields-of-spec : {M : Type 1} → statement M
-fields-of-spec =
+pub fields_of_spec : {M : Type 1} → statement M
+fields_of_spec =
     tie.close
     (tie.spec
     (λ c. search rules)

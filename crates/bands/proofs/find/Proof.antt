@@ -4,15 +4,15 @@ use mathlib.Core.Path.{◌≡◌}
 use native.Mathlib.Omega.{arith}
 use lib.ListN.{length, length-take, length-drop}
 use borrow.Author.Rules.{rules}
-use Rattle.bands.specs.Bands.{bandFor}
-use Rattle.bands.specs.Table.{bandsFrom}
+use Rattle.bands.specs.Bands.{band_for}
+use Rattle.bands.specs.Table.{bands_from}
 use Rattle.bands.proofs.Tables.{finds}
 use Rattle.bands.proofs.find.Statement.{statement}
 use Rattle.bands.proofs.find.Tie as tie
 
 abbrev invariant-loop : tie.invariant-loop
 invariant-loop frequency table rest₀ rest =
-    bandFor frequency (bandsFrom (length rest / 24) rest) ≡ bandFor frequency (bandsFrom (length table / 24) table)
+    band_for frequency (bands_from (length rest / 24) rest) ≡ band_for frequency (bands_from (length table / 24) table)
 
 abbrev decreases-loop : tie.decreases-loop
 decreases-loop frequency table rest₀ rest = length rest

@@ -5,9 +5,9 @@ use borrow.Author.Rules.{rules}
 use Rattle.bands.proofs.in_row.Statement.{statement}
 use Rattle.bands.proofs.in_row.Tie as tie
 
-pub in-row-spec : {M : Type 1} → statement M
+pub in_row_spec : {M : Type 1} → statement M
 unfolding in_row
-in-row-spec =
+in_row_spec =
     tie.close
     (tie.spec
     (λ c. search (rules, tests))

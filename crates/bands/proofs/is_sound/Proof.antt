@@ -4,8 +4,8 @@ use borrow.Author.Rules.{rules}
 use Rattle.bands.proofs.is_sound.Statement.{statement}
 use Rattle.bands.proofs.is_sound.Tie as tie
 
-pub is-sound-spec : {M : Type 1} → statement M
-is-sound-spec =
+pub is_sound_spec : {M : Type 1} → statement M
+is_sound_spec =
     tie.close
     (tie.spec
     (λ c. search (rules, tests))

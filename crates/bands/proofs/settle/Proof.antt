@@ -5,9 +5,9 @@ use borrow.Author.Rules.{rules}
 use Rattle.bands.proofs.settle.Statement.{statement}
 use Rattle.bands.proofs.settle.Tie as tie
 
-pub settle-spec : {M : Type 1} → statement M
+pub settle_spec : {M : Type 1} → statement M
 unfolding settled
-settle-spec =
+settle_spec =
     tie.close
     (tie.spec
     (λ c. search rules)

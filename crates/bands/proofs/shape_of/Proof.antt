@@ -4,8 +4,8 @@ use borrow.Author.Rules.{rules}
 use Rattle.bands.proofs.shape_of.Statement.{statement}
 use Rattle.bands.proofs.shape_of.Tie as tie
 
-pub shape-of-spec : {M : Type 1} → statement M
-shape-of-spec =
+pub shape_of_spec : {M : Type 1} → statement M
+shape_of_spec =
     tie.close
     (tie.spec
     (λ c. search (rules, tests))

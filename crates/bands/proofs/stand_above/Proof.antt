@@ -5,19 +5,19 @@ use native.Mathlib.Omega.{arith}
 use lib.ListN.{length, length-take, length-drop}
 use borrow.Author.Rules.{rules}
 use borrow.Author.Tests.{not-true, not-false}
-use Rattle.bands.specs.Bounds.{rowsStand}
+use Rattle.bands.specs.Bounds.{rows_stand}
 use Rattle.bands.proofs.Tables.{rows}
 use Rattle.bands.proofs.stand_above.Statement.{statement}
 use Rattle.bands.proofs.stand_above.Tie as tie
 
 abbrev invariant-loop : tie.invariant-loop
-invariant-loop before all last₀ rest₀ last rest = rowsStand last (length rest / 24) rest ≡ rowsStand before (length all / 24) all
+invariant-loop before all last₀ rest₀ last rest = rows_stand last (length rest / 24) rest ≡ rows_stand before (length all / 24) all
 
 abbrev decreases-loop : tie.decreases-loop
 decreases-loop before all last₀ rest₀ last rest = length rest
 
-pub stand-above-spec : {M : Type 1} → statement M
-stand-above-spec =
+pub stand_above_spec : {M : Type 1} → statement M
+stand_above_spec =
     tie.close
     (tie.spec
     invariant-loop

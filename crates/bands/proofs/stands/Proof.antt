@@ -1,16 +1,16 @@
 -- `bands::stands` meets its contract: the word of the shape first, then the row. Assumes nothing.
-use Rattle.bands.proofs.Tables.{no-shape, shape-then}
+use Rattle.bands.proofs.Tables.{no_shape, shape_then}
 use native.Mathlib.Omega.{arith}
 use borrow.Author.Rules.{rules}
 use Rattle.bands.proofs.stands.Statement.{statement}
 use Rattle.bands.proofs.stands.Tie as tie
 
-pub stands-spec : {M : Type 1} → statement M
-stands-spec =
+pub stands_spec : {M : Type 1} → statement M
+stands_spec =
     tie.close
     (tie.spec
     (λ c κs. search rules)
-    (λ c. search (rules, no-shape))
+    (λ c. search (rules, no_shape))
     (λ c κs. search rules)
     (λ c κs. search rules)
-    (λ c. shape-then _ _ c.before.before.before.get.ensures _ _ (omega arith) c.before.first.ensures c.is-sound.ensures))
+    (λ c. shape_then _ _ c.before.before.before.get.ensures _ _ (omega arith) c.before.first.ensures c.is-sound.ensures))

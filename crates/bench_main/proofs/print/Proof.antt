@@ -9,8 +9,8 @@ invariant-loop file form out₀ from₀ turns₀ out from turns = Unit {0}
 abbrev decreases-loop : tie.decreases-loop
 decreases-loop file form out₀ from₀ turns₀ out from turns = turns
 
-pub print-spec : {M : Type 1} → statement M
-print-spec =
+pub print_spec : {M : Type 1} → statement M
+print_spec =
     tie.close
     (tie.spec
     invariant-loop

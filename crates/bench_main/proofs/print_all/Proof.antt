@@ -9,8 +9,8 @@ invariant-loop form first count i₀ i = Unit {0}
 abbrev decreases-loop : tie.decreases-loop
 decreases-loop form first count i₀ i = count - i
 
-pub print-all-spec : {M : Type 1} → statement M
-print-all-spec =
+pub print_all_spec : {M : Type 1} → statement M
+print_all_spec =
     tie.close
     (tie.spec
     invariant-loop

@@ -5,19 +5,19 @@ use borrow.Author.Rules.{rules}
 use mathlib.Core.Path.{◌∙◌}
 use native.Mathlib.Omega.{arith}
 use Rattle.boundary.proofs.Answers.{listed}
-use Rattle.words.proofs.Turns.{decoded-room, decoded-count}
-use Rattle.words.proofs.Round.{all-below}
+use Rattle.words.proofs.Turns.{decoded_room, decoded_count}
+use Rattle.words.proofs.Round.{all_below}
 
-pub huskerivory-advance-spec : {M : Type 1} → statement M
-huskerivory-advance-spec =
+pub huskerivory_advance_spec : {M : Type 1} → statement M
+huskerivory_advance_spec =
     tie.close
     (tie.spec
     (λ c κs. search rules)
     (λ c κs. search rules)
     (λ c. search rules)
     (λ c κs. search rules)
-    (λ c. decoded-room _ _ _ _ _ c.before.decode.ensures)
-    (λ c. decoded-count _ _ _ _ _ c.before.before.decode.ensures)
+    (λ c. decoded_room _ _ _ _ _ c.before.decode.ensures)
+    (λ c. decoded_count _ _ _ _ _ c.before.before.decode.ensures)
     (λ c κs. search rules)
     (λ c. search rules)
     (λ c. search rules)
@@ -31,7 +31,7 @@ huskerivory-advance-spec =
     let start = entered.before.before.before.before in (
       advanced.advance.ensures ∙ rw (listed start.args.operations.now _ _ _ made.list.ensures decoded.decode.ensures, described.describe.ensures),
       (
-        all-below 256 start.args.buffer.now (λ i. omega (arith, entered.before.slice-known2.given i)),
-        all-below 256 start.args.answers.now (λ i. omega (arith, entered.shared-slice-known2.given i)),
+        all_below 256 start.args.buffer.now (λ i. omega (arith, entered.before.slice-known2.given i)),
+        all_below 256 start.args.answers.now (λ i. omega (arith, entered.shared-slice-known2.given i)),
       ),
     )))

@@ -3,19 +3,19 @@ use Rattle.boundary.proofs.huskerivory_begin.Statement.{statement}
 use Rattle.boundary.proofs.huskerivory_begin.Tie as tie
 use borrow.Author.Rules.{rules}
 use Rattle.boundary.proofs.Answers.{listed}
-use Rattle.words.proofs.Turns.{decoded-room, decoded-count}
+use Rattle.words.proofs.Turns.{decoded_room, decoded_count}
 use mathlib.Core.Path.{◌∙◌}
 
-pub huskerivory-begin-spec : {M : Type 1} → statement M
-huskerivory-begin-spec =
+pub huskerivory_begin_spec : {M : Type 1} → statement M
+huskerivory_begin_spec =
     tie.close
     (tie.spec
     (λ c κs. search rules)
     (λ c κs. search rules)
     (λ c. search rules)
     (λ c κs. search rules)
-    (λ c. decoded-room _ _ _ _ _ c.before.decode.ensures)
-    (λ c. decoded-count _ _ _ _ _ c.before.before.decode.ensures)
+    (λ c. decoded_room _ _ _ _ _ c.before.decode.ensures)
+    (λ c. decoded_count _ _ _ _ _ c.before.before.decode.ensures)
     (λ c κs. search rules)
     (λ c. search rules)
     (λ c.

@@ -3,8 +3,8 @@ use borrow.Author.Rules.{rules}
 use Rattle.boundary.proofs.huskerivory_load_bands.Statement.{statement}
 use Rattle.boundary.proofs.huskerivory_load_bands.Tie as tie
 
-pub huskerivory-load-bands-spec : {M : Type 1} → statement M
-huskerivory-load-bands-spec =
+pub huskerivory_load_bands_spec : {M : Type 1} → statement M
+huskerivory_load_bands_spec =
     tie.close
     (tie.spec
     (λ c κs. search rules)

@@ -3,19 +3,19 @@ use Rattle.boundary.proofs.huskerivory_next.Statement.{statement}
 use Rattle.boundary.proofs.huskerivory_next.Tie as tie
 use borrow.Author.Rules.{rules}
 use Rattle.boundary.proofs.Answers.{listed}
-use Rattle.words.proofs.Turns.{decoded-room, decoded-count}
+use Rattle.words.proofs.Turns.{decoded_room, decoded_count}
 use mathlib.Core.Path.{◌∙◌}
 
-pub huskerivory-next-spec : {M : Type 1} → statement M
-huskerivory-next-spec =
+pub huskerivory_next_spec : {M : Type 1} → statement M
+huskerivory_next_spec =
     tie.close
     (tie.spec
     (λ c κs. search rules)
     (λ c κs. search rules)
     (λ c. search rules)
     (λ c κs. search rules)
-    (λ c. decoded-room _ _ _ _ _ c.before.decode.ensures)
-    (λ c. decoded-count _ _ _ _ _ c.before.before.decode.ensures)
+    (λ c. decoded_room _ _ _ _ _ c.before.decode.ensures)
+    (λ c. decoded_count _ _ _ _ _ c.before.before.decode.ensures)
     (λ c κs. search rules)
     (λ c.
     let decoded = c.before.before.before in

@@ -1,13 +1,13 @@
 -- `huskerivory_pack` meets its contract. Assumes nothing.
 use mathlib.Core.Path.{◌∙◌, ap}
-use Rattle.timing.specs.Timingr.{packOf}
-use Rattle.boundary.specs.Timing.{packedAnswer}
+use Rattle.timing.specs.Timingr.{pack_of}
+use Rattle.boundary.specs.Timing.{packed_answer}
 use borrow.Author.Rules.{rules}
 use Rattle.boundary.proofs.huskerivory_pack.Statement.{statement}
 use Rattle.boundary.proofs.huskerivory_pack.Tie as tie
 
-pub huskerivory-pack-spec : {M : Type 1} → statement M
-huskerivory-pack-spec =
+pub huskerivory_pack_spec : {M : Type 1} → statement M
+huskerivory_pack_spec =
     tie.close
     (tie.spec
     (λ c κs. search rules)
@@ -17,4 +17,4 @@ huskerivory-pack-spec =
     (λ c.
     let answered = c.before.before in
     c.tell.ensures ∙ answered.packed-answer.ensures
-    ∙ ap packedAnswer (answered.before.pack.ensures ∙ ap packOf answered.before.before.timing-in.ensures)))
+    ∙ ap packed_answer (answered.before.pack.ensures ∙ ap pack_of answered.before.before.timing_in_holds.ensures)))

@@ -5,8 +5,8 @@ use borrow.Author.Rules.{rules}
 use Rattle.boundary.proofs.huskerivory_unpack.Statement.{statement}
 use Rattle.boundary.proofs.huskerivory_unpack.Tie as tie
 
-pub huskerivory-unpack-spec : {M : Type 1} → statement M
-huskerivory-unpack-spec =
+pub huskerivory_unpack_spec : {M : Type 1} → statement M
+huskerivory_unpack_spec =
     tie.close
     (tie.spec
     (λ c κs. search rules)

@@ -3,8 +3,8 @@ use borrow.Author.Rules.{rules}
 use Rattle.boundary.proofs.packed_answer.Statement.{statement}
 use Rattle.boundary.proofs.packed_answer.Tie as tie
 
-pub packed-answer-spec : {M : Type 1} → statement M
-packed-answer-spec =
+pub packed_answer_spec : {M : Type 1} → statement M
+packed_answer_spec =
     tie.close
     (tie.spec
     (λ c. search rules)

@@ -3,8 +3,8 @@ use borrow.Author.Rules.{rules}
 use Rattle.boundary.proofs.timed_answer.Statement.{statement}
 use Rattle.boundary.proofs.timed_answer.Tie as tie
 
-pub timed-answer-spec : {M : Type 1} → statement M
-timed-answer-spec =
+pub timed_answer_spec : {M : Type 1} → statement M
+timed_answer_spec =
     tie.close
     (tie.spec
     (λ c. search rules)

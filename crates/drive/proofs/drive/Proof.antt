@@ -3,8 +3,8 @@ use borrow.Author.Rules.{rules}
 use Rattle.drive.proofs.drive.Statement.{statement}
 use Rattle.drive.proofs.drive.Tie as tie
 
-pub drive-spec : {M : Type 1} → statement M
-drive-spec =
+pub drive_spec : {M : Type 1} → statement M
+drive_spec =
     tie.close
     (tie.spec
     (λ c κs. search rules)

@@ -5,15 +5,15 @@ use mathlib.Core.List.{[], append-nil}
 use mathlib.Core.Path.{sym}
 use native.Mathlib.Omega.{arith}
 use lib.ListN.{length, take, drop, length-take, length-drop}
-use Rattle.calls.proofs.Reached.{few, some-used, in-log, counted, added}
+use Rattle.calls.proofs.Reached.{few, some_used, in_log, counted, added}
 use Rattle.window.specs.Window.{laid}
-use Rattle.drive.specs.Drive.{inLines}
+use Rattle.drive.specs.Drive.{in_lines}
 use Rattle.drive.proofs.Pieces.{all_left}
 use Rattle.drive.proofs.piece.Statement.{statement}
 use Rattle.drive.proofs.piece.Tie as tie
 
-pub piece-spec : {M : Type 1} → statement M
-piece-spec =
+pub piece_spec : {M : Type 1} → statement M
+piece_spec =
     tie.close
     (tie.spec
     (λ c κs. search rules)
@@ -39,7 +39,7 @@ piece-spec =
     (λ c.
     let v = c.before.before.before.before.before.before.before in
     let a = v.before.before.before.before.before.before.before.before.before.before.before.before.args in
-    let h = some-used a.d a.ops.now a.t.advanced a.buffer.now (take (length a.answers.now - a.t.advanced.used) (drop a.t.advanced.used a.answers.now))
+    let h = some_used a.d a.ops.now a.t.advanced a.buffer.now (take (length a.answers.now - a.t.advanced.used) (drop a.t.advanced.used a.answers.now))
     v.before.before.before.before.before.before.before.log.result v.advance.result _ _ v.advance.ensures in
     record { fits = omega (arith, simp (length-take, length-drop) at h, v.before.before.before.before.before.before.before.before.before.before.before.before.requires.0, v.before.before.before.before.before.before.before.before.before.before.before.before.well-formed.1.1.1.1.1.0.0) })
     (λ c.
@@ -57,7 +57,7 @@ piece-spec =
     (λ c.
     let v = c.before.before.before.before.before.before.before.before.before in
     let a = v.before.before.before.before.before.before.before.before.before.before.before.before.args in
-    in-log a.d a.ops.now a.t.advanced a.buffer.now (take (length a.answers.now - a.t.advanced.used) (drop a.t.advanced.used a.answers.now))
+    in_log a.d a.ops.now a.t.advanced a.buffer.now (take (length a.answers.now - a.t.advanced.used) (drop a.t.advanced.used a.answers.now))
     v.before.before.before.before.before.before.before.log.result v.advance.result _ _ v.advance.ensures v.advance.new.1.1.1.1.1.0 [] (sym (append-nil v.advance.new.1.1.1.1.1.0)))
     (λ c.
     let v = c.before.before.before.before.before.before.before.before.before.before in
@@ -72,5 +72,5 @@ piece-spec =
     let a = v.before.before.before.before.before.before.before.before.before.before.before.before.args in
     added a.d a.ops.now a.t.advanced a.buffer.now (take (length a.answers.now - a.t.advanced.used) (drop a.t.advanced.used a.answers.now))
     v.before.before.before.before.before.before.before.log.result v.advance.result _ _ v.advance.ensures v.advance.new.1.1.1.1.1.0 [] (sym (append-nil v.advance.new.1.1.1.1.1.0))
-    (inLines a.form) (laid a.t.place a.out.now) _ c.before.before.put-log.ensures a.answers.now 512 (all_left a.t.advanced.used a.answers.now)
+    (in_lines a.form) (laid a.t.place a.out.now) _ c.before.before.put-log.ensures a.answers.now 512 (all_left a.t.advanced.used a.answers.now)
     (omega (arith, v.before.before.before.before.before.before.before.log.ensures))))

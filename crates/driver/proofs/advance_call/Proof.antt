@@ -4,73 +4,73 @@ use native.Mathlib.Omega.{arith}
 use lib.ListN.{length}
 use Rattle.kinds.proofs.Branch.{told, un_not, holds, fails}
 use Rattle.calls.proofs.Accepted.{known}
-use Rattle.calls.proofs.Fit.{accepted-fit}
+use Rattle.calls.proofs.Fit.{accepted_fit}
 use Rattle.calls.specs.Calls.{Request}
-use Rattle.calls.specs.Refusals.{requestOf}
-use Rattle.driver.proofs.Accepts.{no-belonging, ended-taken, by-standing, piece-small}
+use Rattle.calls.specs.Refusals.{request_of}
+use Rattle.driver.proofs.Accepts.{no_belonging, ended_taken, by_standing, piece_small}
 use Rattle.driver.proofs.Loop.{ended}
 use borrow.Author.Rules.{rules}
 use Rattle.driver.proofs.advance_call.Statement.{statement}
 use Rattle.driver.proofs.advance_call.Tie as tie
 
-pub advance-call-spec : {M : Type 1} → statement M
-advance-call-spec =
+pub advance_call_spec : {M : Type 1} → statement M
+advance_call_spec =
     tie.close
     (tie.spec
     (λ c.
     let a = c.before.before.before.before.args in
-    omega (arith, (accepted-fit a.c a.d a.ops.now (length a.buffer.now) c.before.before.before.before.requires).size))
-    (λ c κs. let a = c.before.before.before.before.args in accepted-fit a.c a.d a.ops.now (length a.buffer.now) c.before.before.before.before.requires)
+    omega (arith, (accepted_fit a.c a.d a.ops.now (length a.buffer.now) c.before.before.before.before.requires).size))
+    (λ c κs. let a = c.before.before.before.before.args in accepted_fit a.c a.d a.ops.now (length a.buffer.now) c.before.before.before.before.requires)
     (λ c κs. search rules)
     (λ c.
     let a = c.before.before.before.before.before.before.before.args in
-    let q : Request = requestOf a.c a.d a.ops.now (length a.buffer.now) in
-    let fit = accepted-fit a.c a.d a.ops.now (length a.buffer.now) c.before.before.before.before.before.before.before.requires in
-    rw (no-belonging a.c a.d a.ops.now (length a.buffer.now) a.saved fit (told c.before.before.belongs.ensures (un_not c.before.if1.true)), c.refused.ensures))
+    let q : Request = request_of a.c a.d a.ops.now (length a.buffer.now) in
+    let fit = accepted_fit a.c a.d a.ops.now (length a.buffer.now) c.before.before.before.before.before.before.before.requires in
+    rw (no_belonging a.c a.d a.ops.now (length a.buffer.now) a.saved fit (told c.before.before.belongs.ensures (un_not c.before.if1.true)), c.refused.ensures))
     (λ c κs. search rules)
     (λ c κs. search rules)
     (λ c.
     let a = c.before.before.before.before.before.before.before.before.before.args in
-    let q : Request = requestOf a.c a.d a.ops.now (length a.buffer.now) in
-    let fit = accepted-fit a.c a.d a.ops.now (length a.buffer.now) c.before.before.before.before.before.before.before.before.before.requires in
+    let q : Request = request_of a.c a.d a.ops.now (length a.buffer.now) in
+    let fit = accepted_fit a.c a.d a.ops.now (length a.buffer.now) c.before.before.before.before.before.before.before.before.before.requires in
     let mine = told c.before.before.before.before.belongs.ensures (un_not c.before.before.before.if1.false) in
     let over = told c.before.before.is-ended.ensures c.before.if2.true in
-    rw (ended-taken a.c a.d a.ops.now (length a.buffer.now) a.saved fit mine over, ended q (length a.log.now / 2) a.saved a.buffer.now a.answers.now (holds over), c.stopped.ensures))
+    rw (ended_taken a.c a.d a.ops.now (length a.buffer.now) a.saved fit mine over, ended q (length a.log.now / 2) a.saved a.buffer.now a.answers.now (holds over), c.stopped.ensures))
     (λ c κs.
     let a = c.before.before.before.before.before.before.before.before.args in
-    let q : Request = requestOf a.c a.d a.ops.now (length a.buffer.now) in
-    let fit = accepted-fit a.c a.d a.ops.now (length a.buffer.now) c.before.before.before.before.before.before.before.before.requires in
+    let q : Request = request_of a.c a.d a.ops.now (length a.buffer.now) in
+    let fit = accepted_fit a.c a.d a.ops.now (length a.buffer.now) c.before.before.before.before.before.before.before.before.requires in
     let mine = told c.before.before.before.belongs.ensures (un_not c.before.before.if1.false) in
     let going = told c.before.is-ended.ensures c.if2.false in
-    (fit, piece-small a.c a.d a.ops.now (length a.buffer.now) a.saved fit mine going))
+    (fit, piece_small a.c a.d a.ops.now (length a.buffer.now) a.saved fit mine going))
     (λ c κs.
     let a = c.before.before.before.before.before.before.before.before.before.args in
-    let q : Request = requestOf a.c a.d a.ops.now (length a.buffer.now) in
-    let fit = accepted-fit a.c a.d a.ops.now (length a.buffer.now) c.before.before.before.before.before.before.before.before.before.requires in
+    let q : Request = request_of a.c a.d a.ops.now (length a.buffer.now) in
+    let fit = accepted_fit a.c a.d a.ops.now (length a.buffer.now) c.before.before.before.before.before.before.before.before.before.requires in
     (fit, c.cursor-at.ensures))
     (λ c κs. search rules)
     (λ c.
     let a = c.before.before.before.before.before.before.before.before.before.before.before.before.args in
-    let q : Request = requestOf a.c a.d a.ops.now (length a.buffer.now) in
-    let fit = accepted-fit a.c a.d a.ops.now (length a.buffer.now) c.before.before.before.before.before.before.before.before.before.before.before.before.requires in
+    let q : Request = request_of a.c a.d a.ops.now (length a.buffer.now) in
+    let fit = accepted_fit a.c a.d a.ops.now (length a.buffer.now) c.before.before.before.before.before.before.before.before.before.before.before.before.requires in
     let mine = told c.before.before.before.before.before.before.before.belongs.ensures (un_not c.before.before.before.before.before.before.if1.false) in
     let going = told c.before.before.before.before.before.is-ended.ensures c.before.before.before.before.if2.false in
-    rw (by-standing a.c a.d a.ops.now (length a.buffer.now) a.saved fit mine going _ (told c.before.before.stands.ensures (un_not c.before.if3.true)), c.refused2.ensures))
+    rw (by_standing a.c a.d a.ops.now (length a.buffer.now) a.saved fit mine going _ (told c.before.before.stands.ensures (un_not c.before.if3.true)), c.refused2.ensures))
     (λ c κs.
     let a = c.before.before.before.before.before.before.before.before.before.before.before.before.before.args in
-    let q : Request = requestOf a.c a.d a.ops.now (length a.buffer.now) in
-    let fit = accepted-fit a.c a.d a.ops.now (length a.buffer.now) c.before.before.before.before.before.before.before.before.before.before.before.before.before.requires in
+    let q : Request = request_of a.c a.d a.ops.now (length a.buffer.now) in
+    let fit = accepted_fit a.c a.d a.ops.now (length a.buffer.now) c.before.before.before.before.before.before.before.before.before.before.before.before.before.requires in
     let mine = told c.before.before.before.before.before.before.before.before.belongs.ensures (un_not c.before.before.before.before.before.before.before.if1.false) in
     let going = told c.before.before.before.before.before.before.is-ended.ensures c.before.before.before.before.before.if2.false in
-    let taken = by-standing a.c a.d a.ops.now (length a.buffer.now) a.saved fit mine going _ (told c.before.before.before.stands.ensures (un_not c.before.before.if3.false)) in
+    let taken = by_standing a.c a.d a.ops.now (length a.buffer.now) a.saved fit mine going _ (told c.before.before.before.stands.ensures (un_not c.before.before.if3.false)) in
     (fit, c.before.before.before.before.cursor-at.ensures, known q a.saved (holds taken) (fails going)))
     (λ c. search rules)
     (λ c. search rules)
     (λ c.
     let a = c.before.before.before.before.before.before.before.before.before.before.before.before.before.before.before.before.before.before.args in
-    let q : Request = requestOf a.c a.d a.ops.now (length a.buffer.now) in
-    let fit = accepted-fit a.c a.d a.ops.now (length a.buffer.now) c.before.before.before.before.before.before.before.before.before.before.before.before.before.before.before.before.before.before.requires in
+    let q : Request = request_of a.c a.d a.ops.now (length a.buffer.now) in
+    let fit = accepted_fit a.c a.d a.ops.now (length a.buffer.now) c.before.before.before.before.before.before.before.before.before.before.before.before.before.before.before.before.before.before.requires in
     let mine = told c.before.before.before.before.before.before.before.before.before.before.before.before.before.belongs.ensures (un_not c.before.before.before.before.before.before.before.before.before.before.before.before.if1.false) in
     let going = told c.before.before.before.before.before.before.before.before.before.before.before.is-ended.ensures c.before.before.before.before.before.before.before.before.before.before.if2.false in
-    let taken = by-standing a.c a.d a.ops.now (length a.buffer.now) a.saved fit mine going _ (told c.before.before.before.before.before.before.before.before.stands.ensures (un_not c.before.before.before.before.before.before.before.if3.false)) in
+    let taken = by_standing a.c a.d a.ops.now (length a.buffer.now) a.saved fit mine going _ (told c.before.before.before.before.before.before.before.before.stands.ensures (un_not c.before.before.before.before.before.before.before.if3.false)) in
     rw taken c.before.before.before.before.run.ensures))

@@ -5,66 +5,66 @@ use lib.ListN.{length}
 use Rattle.kinds.proofs.Branch.{told, un_not, holds}
 use Rattle.calls.specs.Next.{next_of}
 use Rattle.calls.proofs.Along.{no_access}
-use Rattle.calls.proofs.Fit.{accepted-fit}
+use Rattle.calls.proofs.Fit.{accepted_fit}
 use Rattle.calls.specs.Calls.{Request}
-use Rattle.calls.specs.Refusals.{requestOf}
-use Rattle.calls.specs.Steps.{accessAt, accessOf}
-use Rattle.driver.proofs.Accepts.{no-belonging, ended-taken, by-standing, piece-small}
+use Rattle.calls.specs.Refusals.{request_of}
+use Rattle.calls.specs.Steps.{access_at, access_of}
+use Rattle.driver.proofs.Accepts.{no_belonging, ended_taken, by_standing, piece_small}
 use Rattle.driver.specs.declared.view.Cursor.{Cursor}
 use borrow.Author.Rules.{rules}
 use Rattle.driver.proofs.next_call.Statement.{statement}
 use Rattle.driver.proofs.next_call.Tie as tie
 
-pub next-call-spec : {M : Type 1} → statement M
-unfolding accessOf
-next-call-spec =
+pub next_call_spec : {M : Type 1} → statement M
+unfolding access_of
+next_call_spec =
     tie.close
     (tie.spec
     (λ c.
     let a = c.before.before.args in
-    omega (arith, (accepted-fit a.c a.d a.ops.now (length a.buffer.now) c.before.before.requires).size))
-    (λ c κs. let a = c.before.before.args in accepted-fit a.c a.d a.ops.now (length a.buffer.now) c.before.before.requires)
+    omega (arith, (accepted_fit a.c a.d a.ops.now (length a.buffer.now) c.before.before.requires).size))
+    (λ c κs. let a = c.before.before.args in accepted_fit a.c a.d a.ops.now (length a.buffer.now) c.before.before.requires)
     (λ c κs. search rules)
     (λ c.
     let a = c.before.before.before.before.before.args in
-    let q : Request = requestOf a.c a.d a.ops.now (length a.buffer.now) in
-    let fit = accepted-fit a.c a.d a.ops.now (length a.buffer.now) c.before.before.before.before.before.requires in
-    rw (no-belonging a.c a.d a.ops.now (length a.buffer.now) a.saved fit (told c.before.before.belongs.ensures (un_not c.before.if1.true)), c.no-next.ensures))
+    let q : Request = request_of a.c a.d a.ops.now (length a.buffer.now) in
+    let fit = accepted_fit a.c a.d a.ops.now (length a.buffer.now) c.before.before.before.before.before.requires in
+    rw (no_belonging a.c a.d a.ops.now (length a.buffer.now) a.saved fit (told c.before.before.belongs.ensures (un_not c.before.if1.true)), c.no-next.ensures))
     (λ c κs. search rules)
     (λ c.
     let a = c.before.before.before.before.before.before.args in
-    let q : Request = requestOf a.c a.d a.ops.now (length a.buffer.now) in
-    let fit = accepted-fit a.c a.d a.ops.now (length a.buffer.now) c.before.before.before.before.before.before.requires in
+    let q : Request = request_of a.c a.d a.ops.now (length a.buffer.now) in
+    let fit = accepted_fit a.c a.d a.ops.now (length a.buffer.now) c.before.before.before.before.before.before.requires in
     let mine = told c.before.before.before.belongs.ensures (un_not c.before.before.if1.false) in
     let over = told c.before.is-ended.ensures c.if2.true in
-    rw (ended-taken a.c a.d a.ops.now (length a.buffer.now) a.saved fit mine over, no_access q a.buffer.now a.saved (holds over)))
+    rw (ended_taken a.c a.d a.ops.now (length a.buffer.now) a.saved fit mine over, no_access q a.buffer.now a.saved (holds over)))
     (λ c κs.
     let a = c.before.before.before.before.before.before.args in
-    let q : Request = requestOf a.c a.d a.ops.now (length a.buffer.now) in
-    let fit = accepted-fit a.c a.d a.ops.now (length a.buffer.now) c.before.before.before.before.before.before.requires in
+    let q : Request = request_of a.c a.d a.ops.now (length a.buffer.now) in
+    let fit = accepted_fit a.c a.d a.ops.now (length a.buffer.now) c.before.before.before.before.before.before.requires in
     let mine = told c.before.before.before.belongs.ensures (un_not c.before.before.if1.false) in
     let going = told c.before.is-ended.ensures c.if2.false in
-    (fit, piece-small a.c a.d a.ops.now (length a.buffer.now) a.saved fit mine going))
+    (fit, piece_small a.c a.d a.ops.now (length a.buffer.now) a.saved fit mine going))
     (λ c κs.
     let a = c.before.before.before.before.before.before.before.args in
-    let q : Request = requestOf a.c a.d a.ops.now (length a.buffer.now) in
-    let fit = accepted-fit a.c a.d a.ops.now (length a.buffer.now) c.before.before.before.before.before.before.before.requires in
+    let q : Request = request_of a.c a.d a.ops.now (length a.buffer.now) in
+    let fit = accepted_fit a.c a.d a.ops.now (length a.buffer.now) c.before.before.before.before.before.before.before.requires in
     (fit, c.cursor-at.ensures))
     (λ c κs. search rules)
     (λ c.
     let a = c.before.before.before.before.before.before.before.before.before.before.args in
-    let q : Request = requestOf a.c a.d a.ops.now (length a.buffer.now) in
-    let fit = accepted-fit a.c a.d a.ops.now (length a.buffer.now) c.before.before.before.before.before.before.before.before.before.before.requires in
+    let q : Request = request_of a.c a.d a.ops.now (length a.buffer.now) in
+    let fit = accepted_fit a.c a.d a.ops.now (length a.buffer.now) c.before.before.before.before.before.before.before.before.before.before.requires in
     let mine = told c.before.before.before.before.before.before.before.belongs.ensures (un_not c.before.before.before.before.before.before.if1.false) in
     let going = told c.before.before.before.before.before.is-ended.ensures c.before.before.before.before.if2.false in
-    rw (by-standing a.c a.d a.ops.now (length a.buffer.now) a.saved fit mine going _ (told c.before.before.stands.ensures (un_not c.before.if3.true)), c.no-next2.ensures))
+    rw (by_standing a.c a.d a.ops.now (length a.buffer.now) a.saved fit mine going _ (told c.before.before.stands.ensures (un_not c.before.if3.true)), c.no-next2.ensures))
     (λ c κs. search rules)
     (λ c.
     let a = c.before.before.before.before.before.before.before.before.before.before.before.args in
-    let q : Request = requestOf a.c a.d a.ops.now (length a.buffer.now) in
-    let fit = accepted-fit a.c a.d a.ops.now (length a.buffer.now) c.before.before.before.before.before.before.before.before.before.before.before.requires in
+    let q : Request = request_of a.c a.d a.ops.now (length a.buffer.now) in
+    let fit = accepted_fit a.c a.d a.ops.now (length a.buffer.now) c.before.before.before.before.before.before.before.before.before.before.before.requires in
     let mine = told c.before.before.before.before.before.before.before.before.belongs.ensures (un_not c.before.before.before.before.before.before.before.if1.false) in
     let going = told c.before.before.before.before.before.before.is-ended.ensures c.before.before.before.before.before.if2.false in
-    rw (by-standing a.c a.d a.ops.now (length a.buffer.now) a.saved fit mine going _ (told c.before.before.before.stands.ensures (un_not c.before.before.if3.false)))
+    rw (by_standing a.c a.d a.ops.now (length a.buffer.now) a.saved fit mine going _ (told c.before.before.before.stands.ensures (un_not c.before.before.if3.false)))
     (c.register-at.ensures a.c a.buffer.now
-    ∙ ap (λ (p : Cursor). next_of (accessAt a.c a.d p.view a.buffer.now a.saved a.saved.step)) c.before.before.before.before.cursor-at.ensures)))
+    ∙ ap (λ (p : Cursor). next_of (access_at a.c a.d p.view a.buffer.now a.saved a.saved.step)) c.before.before.before.before.cursor-at.ensures)))

@@ -5,8 +5,8 @@ use Rattle.fields.specs.Field.{bits_at}
 use Rattle.fields.proofs.bits.Statement.{statement}
 use Rattle.fields.proofs.bits.Tie as tie
 
-pub bits-spec : {M : Type 1} → statement M
+pub bits_spec : {M : Type 1} → statement M
 unfolding bits_at
-bits-spec =
+bits_spec =
     tie.close
     (tie.spec (λ c. search rules) (λ c κs. search rules) (λ c. rw (c.mask.ensures, and_mask)))

@@ -11,8 +11,8 @@ use Rattle.fields.proofs.mask.Tie as tie
 shifted : (n : ℕ) → n ≤ 32 → 1 * 2 ^ n % 2 ^ 64 ≡ 2 ^ n
 shifted n h = shl_exact 1 n 64 (omega arith) (omega arith) ∙ one-mul (2 ^ n)
 
-pub mask-spec : {M : Type 1} → statement M
-mask-spec =
+pub mask_spec : {M : Type 1} → statement M
+mask_spec =
     tie.close
     (tie.spec
     (λ c. search rules)

@@ -4,8 +4,8 @@ use Rattle.fields.proofs.Arithmetic.{masked}
 use Rattle.fields.proofs.with_bits.Statement.{statement}
 use Rattle.fields.proofs.with_bits.Tie as tie
 
-pub with-bits-spec : {M : Type 1} → statement M
-with-bits-spec =
+pub with_bits_spec : {M : Type 1} → statement M
+with_bits_spec =
     tie.close
     (tie.spec
     (λ c κs. search rules)

@@ -42,7 +42,7 @@ use denote.Triple.Walked.{says, Stays, stay_none, stay_dropped, gave_slice, walk
 use denote.Exit.{yes}
 use Rattle.calls.specs.declared.Description.{Description}
 use Rattle.calls.specs.declared.SavedCall.{SavedCall}
-use Rattle.calls.specs.Run.{finalOf}
+use Rattle.calls.specs.Run.{final_of}
 use Rattle.calls.specs.contracts.Advanced as R
 use Rattle.calls.proofs.Advanced.TheLaws as R'
 use Rattle.calls.specs.contracts.Description as D
@@ -50,7 +50,7 @@ use Rattle.calls.proofs.Description.TheLaws as D'
 use Rattle.calls.proofs.Report.TheLaws as O'
 use Rattle.calls.specs.contracts.SavedCall as S
 use Rattle.calls.proofs.SavedCall.TheLaws as S'
-use Rattle.in_place.specs.InPlace.{inPlace, asAdvanced}
+use Rattle.in_place.specs.InPlace.{in_place, as_advanced}
 use Rattle.in_place.specs.declared.Progress.{Progress}
 use Rattle.in_place.proofs.Lent.{lends, comes_back}
 use Rattle.in_place.proofs.Values.{mD, mS, mR}
@@ -108,19 +108,19 @@ module _ {M : Type 1} {𝓤 : Ura M} (𝓛 : Logic 𝓤) (at_mem : Memory → SP
 
   -- what `advance_in_place` ensures, at the last saved call and the last lists
   abbrev Ends : Progress → SavedCall → List ℕ → List ℕ → Type 0
-  Ends p s zb zl = inPlace p s zb zl ≡ finalOf d ops.now h buf.now ans.now log.now
+  Ends p s zb zl = in_place p s zb zl ≡ final_of d ops.now h buf.now ans.now log.now
 
-  exits : (p : Progress) (s : SavedCall) (zb zl : List ℕ) → Is D.the_row d (mD d ∷ []) → Is S.the_row h (mS h ∷ []) → Is R.the_row (asAdvanced p s) (mR (asAdvanced p s) ∷ []) → Ends p s zb zl → length zb ≡ length buf.now → length zl ≡ length log.now
-      → ent 𝓤 (⋆ 𝓛 (‵ (flft κ₀ q₀) ∷ toks ∷ ‵ (finally u32 log.name zl) ∷ ‵ (finally u8 buf.name zb) ∷ [])) (Post (mR (asAdvanced p s)))
+  exits : (p : Progress) (s : SavedCall) (zb zl : List ℕ) → Is D.the_row d (mD d ∷ []) → Is S.the_row h (mS h ∷ []) → Is R.the_row (as_advanced p s) (mR (as_advanced p s) ∷ []) → Ends p s zb zl → length zb ≡ length buf.now → length zl ≡ length log.now
+      → ent 𝓤 (⋆ 𝓛 (‵ (flft κ₀ q₀) ∷ toks ∷ ‵ (finally u32 log.name zl) ∷ ‵ (finally u8 buf.name zb) ∷ [])) (Post (mR (as_advanced p s)))
   exits p s zb zl is-d is-h is-r e lb ll =
       qed 𝓛 (‵ (flft κ₀ q₀) ∷ toks ∷ ‵ (finally u32 log.name zl) ∷ ‵ (finally u8 buf.name zb) ∷ []) ∵
-      suffices ! _ (ends_at 𝓛 advance.ended stayed (advance.clauses 𝓛 at_mem run) (((κ₀, (κ₁, (κ₂, (κ₃, tt)))), (q₀, (q₁, (q₂, (q₃, tt)))), tt, a, vals), tt) (mR (asAdvanced p s)) (asAdvanced p s) (tt, (tt, (tt, (zb, (tt, (zl, tt)))))) (tt, (tt, (tt, (lb, (tt, (ll, tt))))))) $ says ! e $
+      suffices ! _ (ends_at 𝓛 advance.ended stayed (advance.clauses 𝓛 at_mem run) (((κ₀, (κ₁, (κ₂, (κ₃, tt)))), (q₀, (q₁, (q₂, (q₃, tt)))), tt, a, vals), tt) (mR (as_advanced p s)) (as_advanced p s) (tt, (tt, (tt, (zb, (tt, (zl, tt)))))) (tt, (tt, (tt, (lb, (tt, (ll, tt))))))) $ says ! e $
       join ! $ frame ! $
       -- [the last log; the last buffer]
       nothing ! $ move ! (1 ∷ 0 ∷ []) $ fjoin ! $ nothing ! $ fjoin ! $ move ! (1 ∷ 0 ∷ []) $ fjoin ! $
       owned ! S.the_row (Is S.the_row) (LL.makes S.the_type S'.the_plain 𝓛) h _ is-h $ fjoin ! $ nothing ! $ fjoin ! $
       owned ! D.the_row (Is D.the_row) (LL.makes D.the_type D'.the_plain 𝓛) d _ is-d $ fjoin ! $
-      owned ! R.the_row (Is R.the_row) (LL.makes R.the_type R'.the_plain 𝓛) (asAdvanced p s) _ is-r $ move ! (1 ∷ 0 ∷ []) $ frame ! $ done !
+      owned ! R.the_row (Is R.the_row) (LL.makes R.the_type R'.the_plain 𝓛) (as_advanced p s) _ is-r $ move ! (1 ∷ 0 ∷ []) $ frame ! $ done !
 
   module _ (C : Calls 𝓤 H) (Λ : Loops 𝓤 H) (fm : FmC 𝓤 H 𝓛.laws C) (known : Triple 𝓤 (C #in-place) (InPlace 𝓛 at_mem run)) where
     walk : Is D.the_row d (mD d ∷ []) → Is S.the_row h (mS h ∷ []) → Room u32 (length ops.now) → Room u8 (length buf.now) → Room u32 (length ans.now) → Room u32 (length log.now)
@@ -156,11 +156,11 @@ module _ {M : Type 1} {𝓤 : Ura M} (𝓛 : Logic 𝓤) (at_mem : Memory → SP
         -- the lifetime is ended, and the local comes back
         move ! (1 ∷ []) $ split ! $ move ! (1 ∷ []) $ split ! $ lft_end ! tt $ move ! (0 ∷ 8 ∷ 7 ∷ []) $
         use3 𝓛 (later (given (Is S.the_row zs.1.1.0 (mS zs.1.1.0 ∷ [])) (‵ (fat full_share S'.mir l₇ 0 (mS zs.1.1.0))))) (comes_back 𝓛 S.the_type S'.the_laws (α ∷ []) γ zs.1.1.0 l₇) $ await ! tt $ learn ! (λ is-s.
-        let is-r = LL.owes R.the_type R'.the_laws (asAdvanced p zs.1.1.0) (fields.0, (fields.1.0, (is-s, (fields.1.1.0, tt)))) in
+        let is-r = LL.owes R.the_type R'.the_laws (as_advanced p zs.1.1.0) (fields.0, (fields.1.0, (is-s, (fields.1.1.0, tt)))) in
         -- [_7; the last three's tokens; ops's token; what the result owns; the last log; true; the last buffer; _14 at 7; …; _8 at 19; …; _6 at 22; …; _0 at 34]
         assigns ! (of_opd ! (load ! (from ! (stop !)) (look ! 0 refl))) (from ! (stop !)) (init ! 7 refl ((LL.lawful S.the_type S'.the_laws 𝓛).typed zs.1.1.0 _ is-s).0) $
         -- what was said, field by field: of each its type and its place are written, as in the walk of `advance_in_place`
-        assigns ! (agg ! (and_then ! (load ! (from ! (fld ! {τ = ty_int w64} {d = 0} refl (stop !))) (look_in ! 19 {τ = ty_int w64} (sub ! 0 {τ = ty_int w64} {d = 0} refl (whole !)))) (and_then ! (load ! (from ! (fld ! {τ = ty_int w64} {d = 8} refl (stop !))) (look_in ! 19 {τ = ty_int w64} (sub ! 1 {τ = ty_int w64} {d = 8} refl (whole !)))) (and_then ! (load ! (from ! (stop !)) (look ! 7 refl)) (and_then ! (load ! (from ! (fld ! {τ = O'.mir} {d = 16} refl (stop !))) (look_in ! 19 {τ = O'.mir} (sub ! 2 {τ = O'.mir} {d = 16} refl (whole !)))) (no_more !)))))) (from ! (stop !)) (init ! 34 refl ((LL.lawful R.the_type R'.the_laws 𝓛).typed (asAdvanced p zs.1.1.0) _ is-r).0) $
+        assigns ! (agg ! (and_then ! (load ! (from ! (fld ! {τ = ty_int w64} {d = 0} refl (stop !))) (look_in ! 19 {τ = ty_int w64} (sub ! 0 {τ = ty_int w64} {d = 0} refl (whole !)))) (and_then ! (load ! (from ! (fld ! {τ = ty_int w64} {d = 8} refl (stop !))) (look_in ! 19 {τ = ty_int w64} (sub ! 1 {τ = ty_int w64} {d = 8} refl (whole !)))) (and_then ! (load ! (from ! (stop !)) (look ! 7 refl)) (and_then ! (load ! (from ! (fld ! {τ = O'.mir} {d = 16} refl (stop !))) (look_in ! 19 {τ = O'.mir} (sub ! 2 {τ = O'.mir} {d = 16} refl (whole !)))) (no_more !)))))) (from ! (stop !)) (init ! 34 refl ((LL.lawful R.the_type R'.the_laws 𝓛).typed (as_advanced p zs.1.1.0) _ is-r).0) $
         returns ! (look ! 34 refl) $ forget ! 0 refl $ forget ! 7 refl $ forget ! 9 refl $ forget ! 11 refl $ forget ! 13 refl $ forget ! 15 refl $ forget ! 17 refl $ forget ! 19 refl $ forget ! 22 refl $ forget ! 24 refl $ forget ! 26 refl $ forget ! 28 refl $ forget ! 30 refl $ forget ! 32 refl $ forget ! 34 refl $
         move ! (34 ∷ 35 ∷ []) $ free1 ! $ move ! (32 ∷ 33 ∷ []) $ free1 ! $ move ! (30 ∷ 31 ∷ []) $ free1 ! $ move ! (28 ∷ 29 ∷ []) $ free1 ! $ move ! (26 ∷ 27 ∷ []) $ free1 ! $ move ! (24 ∷ 25 ∷ []) $ free1 ! $ move ! (22 ∷ 23 ∷ []) $ free1 ! $ move ! (0 ∷ 21 ∷ []) $ free1 ! $
         -- [the last three's tokens; ops's token; what the result owns; the last log; true; the last buffer; _14 at 6; …; _8 at 18]
@@ -170,24 +170,24 @@ module _ {M : Type 1} {𝓤 : Ura M} (𝓛 : Logic 𝓤) (at_mem : Memory → SP
 module _ {M : Type 1} {𝓤 : Ura M} (𝓛 : Logic 𝓤) (mem : Memory → SProp 𝓤) (run : Routine → Fun 𝓤) where
   open 𝓛 use {H}
 
-  advance-walks : (C : Calls 𝓤 H) (Λ : Loops 𝓤 H) → FmC 𝓤 H 𝓛.laws C → Triple 𝓤 (C #in-place) (InPlace 𝓛 mem run) → Walks 𝓛 advance.ended stayed (WpFn 𝓤 H C Λ code.function) (advance.clauses 𝓛 mem run)
-  advance-walks C Λ fm known = walked 𝓛 advance.ended stayed (advance.clauses 𝓛 mem run) (WpFn 𝓤 H C Λ code.function)
+  advance_walks : (C : Calls 𝓤 H) (Λ : Loops 𝓤 H) → FmC 𝓤 H 𝓛.laws C → Triple 𝓤 (C #in-place) (InPlace 𝓛 mem run) → Walks 𝓛 advance.ended stayed (WpFn 𝓤 H C Λ code.function) (advance.clauses 𝓛 mem run)
+  advance_walks C Λ fm known = walked 𝓛 advance.ended stayed (advance.clauses 𝓛 mem run) (WpFn 𝓤 H C Λ code.function)
       (λ κs. (LL.vals D.the_type D'.the_laws, (shr_slice_vals, (LL.vals S.the_type S'.the_laws, (shr_slice_vals, (shr_slice_vals, (shr_slice_vals, tt)))))))
       (λ κs. (LL.tells D.the_type D'.the_laws, (shr_slice_Tells (named 0) κs.0 u32, (LL.tells S.the_type S'.the_laws, (mut_slice_Tells (named 1) κs.1.0 u8, (shr_slice_Tells (named 2) κs.1.1.0 u32, (mut_slice_Tells (named 3) κs.1.1.1.0 u32, tt)))))))
       (λ κs qs bounds a _ are. via 𝓤 _ (fst∗ 𝓤 _ (emp 𝓤)) (walk 𝓛 mem run κs.0 κs.1.0 κs.1.1.0 κs.1.1.1.0 qs.0 qs.1.0 qs.1.1.0 qs.1.1.1.0
       a.0 a.1.0 a.1.1.0 a.1.1.1.0 a.1.1.1.1.0 a.1.1.1.1.1.0 C Λ fm known are.0 are.1.1.0 are.1.0.0.1 are.1.1.1.0.0.1 are.1.1.1.1.0.0.1 are.1.1.1.1.1.0.0.1))
 
-  goes-all : AllGo 𝓛 4 (advance.signature).params (advance.ended).kept stayed
-  goes-all = (Goes-none 𝓛 4 (λ _. D.the_row) yes (λ κs x f. refl), (Goes-dropped 𝓛 4 (shr_slice_of (0 ∷ []) tt (plain (λ _. u32))) yes (λ κs x f. refl), (Goes-none 𝓛 4 (λ _. S.the_row) yes (λ κs x f. refl), (Goes-gave_slice 𝓛 4 1 tt (plain (λ _. u8)), (Goes-dropped 𝓛 4 (shr_slice_of (2 ∷ []) tt (plain (λ _. u32))) yes (λ κs x f. refl), (Goes-gave_slice 𝓛 4 3 tt (plain (λ _. u32)), tt))))))
+  goes_all : AllGo 𝓛 4 (advance.signature).params (advance.ended).kept stayed
+  goes_all = (Goes-none 𝓛 4 (λ _. D.the_row) yes (λ κs x f. refl), (Goes-dropped 𝓛 4 (shr_slice_of (0 ∷ []) tt (plain (λ _. u32))) yes (λ κs x f. refl), (Goes-none 𝓛 4 (λ _. S.the_row) yes (λ κs x f. refl), (Goes-gave_slice 𝓛 4 1 tt (plain (λ _. u8)), (Goes-dropped 𝓛 4 (shr_slice_of (2 ∷ []) tt (plain (λ _. u32))) yes (λ κs x f. refl), (Goes-gave_slice 𝓛 4 3 tt (plain (λ _. u32)), tt))))))
 
-advance-meets : {M : Type 1} {𝓤 : Ura M} (𝓛 : Logic 𝓤) → (mem : Memory → SProp 𝓤) (run : Routine → Fun 𝓤) (𝓣 : Tables 𝓤 𝓛.H) → Triple 𝓤 (𝓣.C #in-place) (InPlace 𝓛 mem run)
+advance_meets : {M : Type 1} {𝓤 : Ura M} (𝓛 : Logic 𝓤) → (mem : Memory → SProp 𝓤) (run : Routine → Fun 𝓤) (𝓣 : Tables 𝓤 𝓛.H) → Triple 𝓤 (𝓣.C #in-place) (InPlace 𝓛 mem run)
     → Meets 𝓛 advance.signature (WpFn 𝓤 𝓛.H 𝓣.C 𝓣.Λ code.function) (advance.spec 𝓛 mem run)
-advance-meets {𝓤 = 𝓤} 𝓛 mem run 𝓣 known = walk_Meets 𝓛 advance.ended stayed (goes-all 𝓛 mem run) (advance.clauses 𝓛 mem run) (WpFn 𝓤 𝓛.H 𝓣.C 𝓣.Λ code.function) (WpFn-mono 𝓤 𝓛.H 𝓛.laws 𝓣 code.function) (advance-walks 𝓛 mem run 𝓣.C 𝓣.Λ (fm_of 𝓤 𝓛.H 𝓛.laws 𝓣) known)
+advance_meets {𝓤 = 𝓤} 𝓛 mem run 𝓣 known = walk_Meets 𝓛 advance.ended stayed (goes_all 𝓛 mem run) (advance.clauses 𝓛 mem run) (WpFn 𝓤 𝓛.H 𝓣.C 𝓣.Λ code.function) (WpFn-mono 𝓤 𝓛.H 𝓛.laws 𝓣 code.function) (advance_walks 𝓛 mem run 𝓣.C 𝓣.Λ (fm_of 𝓤 𝓛.H 𝓛.laws 𝓣) known)
 
-pub advance-spec : {M : Type 1} → stated.statement M
+pub advance_spec : {M : Type 1} → stated.statement M
 unfolding code.routine tables_of
-advance-spec 𝓤 𝓛 𝓜 𝓡 =
+advance_spec 𝓤 𝓛 𝓜 𝓡 =
     entered 𝓤 𝓛.H (triple_of 𝓛 advance.signature (advance.spec 𝓛 𝓜.mem 𝓡.run))
     (tables 𝓤 𝓛.H 𝓜 𝓡 code.env).C (tables 𝓤 𝓛.H 𝓜 𝓡 code.env).Λ #advance code.function (code.unfolded 𝓤 𝓛.H 𝓜 𝓡)
-    (advance-meets 𝓛 𝓜.mem 𝓡.run (tables_of 𝓤 𝓛.H 𝓜 (tables 𝓤 𝓛.H 𝓜 𝓡 code.env))
+    (advance_meets 𝓛 𝓜.mem 𝓡.run (tables_of 𝓤 𝓛.H 𝓜 (tables 𝓤 𝓛.H 𝓜 𝓡 code.env))
     (cited 𝓤 𝓛.H (InPlace 𝓛 𝓜.mem 𝓡.run) 𝓜 𝓡 code.env #in-place in-place-def.routine code.calls-in-place::advance-in-place (in-place-thm.met 𝓤 𝓛 𝓜 𝓡)))

@@ -43,7 +43,7 @@ use denote.Exit.{yes}
 use Rattle.calls.specs.declared.Advanced.{Advanced}
 use Rattle.calls.specs.declared.Description.{Description}
 use Rattle.calls.specs.declared.SavedCall.{SavedCall}
-use Rattle.calls.specs.Run.{asFinal, finalOf}
+use Rattle.calls.specs.Run.{as_final, final_of}
 use Rattle.calls.specs.contracts.Advanced as R
 use Rattle.calls.proofs.Advanced.TheLaws as R'
 use Rattle.calls.specs.contracts.Description as D
@@ -110,7 +110,7 @@ module _ {M : Type 1} {𝓤 : Ura M} (𝓛 : Logic 𝓤) (at_mem : Memory → SP
 
   -- what `advance` ensures, at the last lists
   abbrev Ends : Advanced → List ℕ → List ℕ → Type 0
-  Ends r zb zl = asFinal r zb zl ≡ finalOf d ops.now h buf.now ans.now log.now
+  Ends r zb zl = as_final r zb zl ≡ final_of d ops.now h buf.now ans.now log.now
 
   exits : (r : Advanced) (zb zl : List ℕ) → Is D.the_row d (mD d ∷ []) → Is P.the_row (said r) (mP (said r) ∷ []) → Ends r zb zl → length zb ≡ length buf.now → length zl ≡ length log.now
       → ent 𝓤 (⋆ 𝓛 (‵ (fobs γ ((S.the_row).coded.code r.saved)) ∷ ‵ (fbor κ (Body (mem S.the_row) b o γ)) ∷ ‵ (flft κ q) ∷ (‵ (flft κ₀ q₀) ⊛ toks) ∷ ‵ (finally u32 log.name zl) ∷ ‵ (finally u8 buf.name zb) ∷ [])) (Post (mP (said r)))
@@ -170,24 +170,24 @@ module _ {M : Type 1} {𝓤 : Ura M} (𝓛 : Logic 𝓤) (at_mem : Memory → SP
 module _ {M : Type 1} {𝓤 : Ura M} (𝓛 : Logic 𝓤) (mem : Memory → SProp 𝓤) (run : Routine → Fun 𝓤) where
   open 𝓛 use {H}
 
-  in-place-walks : (C : Calls 𝓤 H) (Λ : Loops 𝓤 H) → FmC 𝓤 H 𝓛.laws C → Triple 𝓤 (C #driver·advance) (Advance 𝓛 mem run) → Walks 𝓛 in_place.ended stayed (WpFn 𝓤 H C Λ code.function) (in_place.clauses 𝓛 mem run)
-  in-place-walks C Λ fm known = walked 𝓛 in_place.ended stayed (in_place.clauses 𝓛 mem run) (WpFn 𝓤 H C Λ code.function)
+  in_place_walks : (C : Calls 𝓤 H) (Λ : Loops 𝓤 H) → FmC 𝓤 H 𝓛.laws C → Triple 𝓤 (C #driver·advance) (Advance 𝓛 mem run) → Walks 𝓛 in_place.ended stayed (WpFn 𝓤 H C Λ code.function) (in_place.clauses 𝓛 mem run)
+  in_place_walks C Λ fm known = walked 𝓛 in_place.ended stayed (in_place.clauses 𝓛 mem run) (WpFn 𝓤 H C Λ code.function)
       (λ κs. (LL.vals D.the_type D'.the_laws, (shr_slice_vals, (shr_vals, (shr_slice_vals, (shr_slice_vals, (shr_slice_vals, tt)))))))
       (λ κs. (LL.tells D.the_type D'.the_laws, (shr_slice_Tells (named 0) κs.0 u32, (mut_Tells (named 1) κs.1.0 S.the_row, (mut_slice_Tells (named 2) κs.1.1.0 u8, (shr_slice_Tells (named 3) κs.1.1.1.0 u32, (mut_slice_Tells (named 4) κs.1.1.1.1.0 u32, tt)))))))
       (λ κs qs bounds a _ are. via 𝓤 _ (fst∗ 𝓤 _ (emp 𝓤)) (walk 𝓛 mem run κs.0 κs.1.0 κs.1.1.0 κs.1.1.1.0 κs.1.1.1.1.0 qs.0 qs.1.0 qs.1.1.0 qs.1.1.1.0 qs.1.1.1.1.0
       a.0 a.1.0 a.1.1.0.ref_ptr.0 a.1.1.0.ref_ptr.1 a.1.1.0.ghost_name a.1.1.0.now a.1.1.1.0 a.1.1.1.1.0 a.1.1.1.1.1.0 C Λ fm known are.0 are.1.0.0.1 are.1.1.1.0.0.1 are.1.1.1.1.0.0.1 are.1.1.1.1.1.0.0.1))
 
-  goes-all : AllGo 𝓛 5 (in_place.signature).params (in_place.ended).kept stayed
-  goes-all = (Goes-none 𝓛 5 (λ _. D.the_row) yes (λ κs x f. refl), (Goes-dropped 𝓛 5 (shr_slice_of (0 ∷ []) tt (plain (λ _. u32))) yes (λ κs x f. refl), (Goes-ref 𝓛 5 1 tt (plain (λ _. S.the_row)), (Goes-gave_slice 𝓛 5 2 tt (plain (λ _. u8)), (Goes-dropped 𝓛 5 (shr_slice_of (3 ∷ []) tt (plain (λ _. u32))) yes (λ κs x f. refl), (Goes-gave_slice 𝓛 5 4 tt (plain (λ _. u32)), tt))))))
+  goes_all : AllGo 𝓛 5 (in_place.signature).params (in_place.ended).kept stayed
+  goes_all = (Goes-none 𝓛 5 (λ _. D.the_row) yes (λ κs x f. refl), (Goes-dropped 𝓛 5 (shr_slice_of (0 ∷ []) tt (plain (λ _. u32))) yes (λ κs x f. refl), (Goes-ref 𝓛 5 1 tt (plain (λ _. S.the_row)), (Goes-gave_slice 𝓛 5 2 tt (plain (λ _. u8)), (Goes-dropped 𝓛 5 (shr_slice_of (3 ∷ []) tt (plain (λ _. u32))) yes (λ κs x f. refl), (Goes-gave_slice 𝓛 5 4 tt (plain (λ _. u32)), tt))))))
 
-in-place-meets : {M : Type 1} {𝓤 : Ura M} (𝓛 : Logic 𝓤) → (mem : Memory → SProp 𝓤) (run : Routine → Fun 𝓤) (𝓣 : Tables 𝓤 𝓛.H) → Triple 𝓤 (𝓣.C #driver·advance) (Advance 𝓛 mem run)
+in_place_meets : {M : Type 1} {𝓤 : Ura M} (𝓛 : Logic 𝓤) → (mem : Memory → SProp 𝓤) (run : Routine → Fun 𝓤) (𝓣 : Tables 𝓤 𝓛.H) → Triple 𝓤 (𝓣.C #driver·advance) (Advance 𝓛 mem run)
     → Meets 𝓛 in_place.signature (WpFn 𝓤 𝓛.H 𝓣.C 𝓣.Λ code.function) (in_place.spec 𝓛 mem run)
-in-place-meets {𝓤 = 𝓤} 𝓛 mem run 𝓣 known = walk_Meets 𝓛 in_place.ended stayed (goes-all 𝓛 mem run) (in_place.clauses 𝓛 mem run) (WpFn 𝓤 𝓛.H 𝓣.C 𝓣.Λ code.function) (WpFn-mono 𝓤 𝓛.H 𝓛.laws 𝓣 code.function) (in-place-walks 𝓛 mem run 𝓣.C 𝓣.Λ (fm_of 𝓤 𝓛.H 𝓛.laws 𝓣) known)
+in_place_meets {𝓤 = 𝓤} 𝓛 mem run 𝓣 known = walk_Meets 𝓛 in_place.ended stayed (goes_all 𝓛 mem run) (in_place.clauses 𝓛 mem run) (WpFn 𝓤 𝓛.H 𝓣.C 𝓣.Λ code.function) (WpFn-mono 𝓤 𝓛.H 𝓛.laws 𝓣 code.function) (in_place_walks 𝓛 mem run 𝓣.C 𝓣.Λ (fm_of 𝓤 𝓛.H 𝓛.laws 𝓣) known)
 
-pub advance-in-place-spec : {M : Type 1} → stated.statement M
+pub advance_in_place_spec : {M : Type 1} → stated.statement M
 unfolding code.routine tables_of
-advance-in-place-spec 𝓤 𝓛 𝓜 𝓡 =
+advance_in_place_spec 𝓤 𝓛 𝓜 𝓡 =
     entered 𝓤 𝓛.H (triple_of 𝓛 in_place.signature (in_place.spec 𝓛 𝓜.mem 𝓡.run))
     (tables 𝓤 𝓛.H 𝓜 𝓡 code.env).C (tables 𝓤 𝓛.H 𝓜 𝓡 code.env).Λ #in-place code.function (code.unfolded 𝓤 𝓛.H 𝓜 𝓡)
-    (in-place-meets 𝓛 𝓜.mem 𝓡.run (tables_of 𝓤 𝓛.H 𝓜 (tables 𝓤 𝓛.H 𝓜 𝓡 code.env))
+    (in_place_meets 𝓛 𝓜.mem 𝓡.run (tables_of 𝓤 𝓛.H 𝓜 (tables 𝓤 𝓛.H 𝓜 𝓡 code.env))
     (cited 𝓤 𝓛.H (Advance 𝓛 𝓜.mem 𝓡.run) 𝓜 𝓡 code.env #driver·advance advance-def.routine code.calls-driver::advance (advance-thm.met 𝓤 𝓛 𝓜 𝓡)))

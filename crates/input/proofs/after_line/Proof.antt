@@ -11,8 +11,8 @@ invariant-loop text i₀ i-end i = Unit {0}
 abbrev decreases-loop : tie.decreases-loop
 decreases-loop text i₀ i-end i = length text - i
 
-pub after-line-spec : {M : Type 1} → statement M
-after-line-spec =
+pub after_line_spec : {M : Type 1} → statement M
+after_line_spec =
     tie.close
     (tie.spec
     invariant-loop

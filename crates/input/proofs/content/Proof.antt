@@ -11,8 +11,8 @@ invariant-loop text i₀ i-end i = Unit {0}
 abbrev decreases-loop : tie.decreases-loop
 decreases-loop text i₀ i-end i = length text - i
 
-pub content-spec : {M : Type 1} → statement M
-content-spec =
+pub content_spec : {M : Type 1} → statement M
+content_spec =
     tie.close
     (tie.spec
     invariant-loop

@@ -4,7 +4,7 @@ use Prim.Native.Nat.{◌-◌, ◌≤◌}
 use mathlib.Core.Path.{◌≡◌}
 use lib.ListN.{length}
 use native.Mathlib.Omega.{arith}
-use Rattle.input.proofs.Counted.{counted, before-part}
+use Rattle.input.proofs.Counted.{counted, before_part}
 use Rattle.input.proofs.read.Statement.{statement}
 use Rattle.input.proofs.read.Tie as tie
 
@@ -27,13 +27,13 @@ read_spec =
     (λ c κs. tt)
     (λ c κs. tt)
     (λ c. search rules)
-    (λ c. let i = c.before.before.before.before.before.before.before.loop in before-part i.n i.buf _ i.invariant.0)
+    (λ c. let i = c.before.before.before.before.before.before.before.loop in before_part i.n i.buf _ i.invariant.0)
     (λ c. omega arith)
     (λ c. omega arith)
     (λ c. omega arith)
     (λ c κs. tt)
     (λ c. search rules)
-    (λ c. let i = c.before.before.before.before.before.before.before.before.before.before.loop in before-part i.n i.buf _ i.invariant.0)
+    (λ c. let i = c.before.before.before.before.before.before.before.before.before.before.loop in before_part i.n i.buf _ i.invariant.0)
     (λ c. omega arith)
     (λ c. omega arith)
     (λ c. search rules)

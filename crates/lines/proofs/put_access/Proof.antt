@@ -1,13 +1,13 @@
 -- `lines::put_access` meets its contract. Assumes nothing.
 use borrow.Author.Rules.{rules}
 use Rattle.window.proofs.Laid.{then}
-use Rattle.lines.specs.Lines.{accessLine}
+use Rattle.lines.specs.Lines.{access_line}
 use Rattle.lines.proofs.put_access.Statement.{statement}
 use Rattle.lines.proofs.put_access.Tie as tie
 
-pub put-access-spec : {M : Type 1} → statement M
-unfolding accessLine
-put-access-spec =
+pub put_access_spec : {M : Type 1} → statement M
+unfolding access_line
+put_access_spec =
     tie.close
     (tie.spec
     (λ c κs. search rules)

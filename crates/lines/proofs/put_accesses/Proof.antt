@@ -4,20 +4,20 @@ use borrow.Author.Rules.{rules}
 use mathlib.Core.Path.{◌≡◌, refl}
 use native.Mathlib.Omega.{arith}
 use lib.ListN.{length, length-take, length-drop}
-use Rattle.window.specs.Window.{laid, emitOf}
-use Rattle.lines.specs.Lines.{accessLines}
-use Rattle.lines.proofs.Texts.{entries-put, next-entry}
+use Rattle.window.specs.Window.{laid, emit_of}
+use Rattle.lines.specs.Lines.{access_lines}
+use Rattle.lines.proofs.Texts.{entries_put, next_entry}
 use Rattle.lines.proofs.put_accesses.Statement.{statement}
 use Rattle.lines.proofs.put_accesses.Tie as tie
 
 abbrev invariant-loop : tie.invariant-loop
-invariant-loop log out₀ q₀ rest₀ out q rest = (length out ≡ length out₀) × (emitOf (accessLines rest) (laid q out) ≡ emitOf (accessLines log) (laid q₀ out₀))
+invariant-loop log out₀ q₀ rest₀ out q rest = (length out ≡ length out₀) × (emit_of (access_lines rest) (laid q out) ≡ emit_of (access_lines log) (laid q₀ out₀))
 
 abbrev decreases-loop : tie.decreases-loop
 decreases-loop log out₀ q₀ rest₀ out q rest = length rest
 
-pub put-accesses-spec : {M : Type 1} → statement M
-put-accesses-spec =
+pub put_accesses_spec : {M : Type 1} → statement M
+put_accesses_spec =
     tie.close
     (tie.spec
     invariant-loop
@@ -30,6 +30,6 @@ put-accesses-spec =
     (λ c. search rules)
     (λ c. search rules)
     (λ c. simp (length-take, length-drop) (omega arith))
-    (λ c. search (rules, next-entry))
+    (λ c. search (rules, next_entry))
     (λ c. search rules)
-    (λ c. search (rules, entries-put)))
+    (λ c. search (rules, entries_put)))

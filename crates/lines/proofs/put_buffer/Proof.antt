@@ -1,13 +1,13 @@
 -- `lines::put_buffer` meets its contract: each return by the test on the way. Assumes nothing.
 use borrow.Author.Rules.{rules}
-use Rattle.lines.specs.Lines.{bufferLine}
+use Rattle.lines.specs.Lines.{buffer_line}
 use Rattle.lines.proofs.Texts.{tests}
 use Rattle.lines.proofs.put_buffer.Statement.{statement}
 use Rattle.lines.proofs.put_buffer.Tie as tie
 
-pub put-buffer-spec : {M : Type 1} → statement M
-unfolding bufferLine
-put-buffer-spec =
+pub put_buffer_spec : {M : Type 1} → statement M
+unfolding buffer_line
+put_buffer_spec =
     tie.close
     (tie.spec
     (λ c. search rules)

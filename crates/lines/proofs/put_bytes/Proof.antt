@@ -4,20 +4,20 @@ use borrow.Author.Rules.{rules}
 use mathlib.Core.Path.{◌≡◌, refl}
 use native.Mathlib.Omega.{arith}
 use lib.ListN.{length, length-take, length-drop}
-use Rattle.window.specs.Window.{laid, emitOf}
-use Rattle.lines.specs.Lines.{bytesText}
-use Rattle.lines.proofs.Texts.{bytes-put, next-byte}
+use Rattle.window.specs.Window.{laid, emit_of}
+use Rattle.lines.specs.Lines.{bytes_text}
+use Rattle.lines.proofs.Texts.{bytes_put_holds, next_byte}
 use Rattle.lines.proofs.put_bytes.Statement.{statement}
 use Rattle.lines.proofs.put_bytes.Tie as tie
 
 abbrev invariant-loop : tie.invariant-loop
-invariant-loop bytes out₀ q₀ rest₀ out q rest = (length out ≡ length out₀) × (emitOf (bytesText rest) (laid q out) ≡ emitOf (bytesText bytes) (laid q₀ out₀))
+invariant-loop bytes out₀ q₀ rest₀ out q rest = (length out ≡ length out₀) × (emit_of (bytes_text rest) (laid q out) ≡ emit_of (bytes_text bytes) (laid q₀ out₀))
 
 abbrev decreases-loop : tie.decreases-loop
 decreases-loop bytes out₀ q₀ rest₀ out q rest = length rest
 
-pub put-bytes-spec : {M : Type 1} → statement M
-put-bytes-spec =
+pub put_bytes_spec : {M : Type 1} → statement M
+put_bytes_spec =
     tie.close
     (tie.spec
     invariant-loop
@@ -29,6 +29,6 @@ put-bytes-spec =
     (λ c. search rules)
     (λ c. search rules)
     (λ c. simp (length-take, length-drop) (omega arith))
-    (λ c. search (rules, next-byte))
+    (λ c. search (rules, next_byte))
     (λ c. search rules)
-    (λ c. search (rules, bytes-put)))
+    (λ c. search (rules, bytes_put_holds)))

@@ -1,13 +1,13 @@
 -- `lines::put_call` meets its contract. Assumes nothing.
 use borrow.Author.Rules.{rules}
 use Rattle.window.proofs.Laid.{then}
-use Rattle.lines.specs.Lines.{callLine}
+use Rattle.lines.specs.Lines.{call_line}
 use Rattle.lines.proofs.put_call.Statement.{statement}
 use Rattle.lines.proofs.put_call.Tie as tie
 
-pub put-call-spec : {M : Type 1} → statement M
-unfolding callLine
-put-call-spec =
+pub put_call_spec : {M : Type 1} → statement M
+unfolding call_line
+put_call_spec =
     tie.close
     (tie.spec
     (λ c κs. search rules)

@@ -4,8 +4,8 @@ use Rattle.window.proofs.Laid.{then}
 use Rattle.lines.proofs.put_call_start.Statement.{statement}
 use Rattle.lines.proofs.put_call_start.Tie as tie
 
-pub put-call-start-spec : {M : Type 1} → statement M
-put-call-start-spec =
+pub put_call_start_spec : {M : Type 1} → statement M
+put_call_start_spec =
     tie.close
     (tie.spec
     (λ c κs. search rules)

@@ -4,8 +4,8 @@ use Rattle.window.proofs.Laid.{then}
 use Rattle.lines.proofs.put_full_buffer.Statement.{statement}
 use Rattle.lines.proofs.put_full_buffer.Tie as tie
 
-pub put-full-buffer-spec : {M : Type 1} → statement M
-put-full-buffer-spec =
+pub put_full_buffer_spec : {M : Type 1} → statement M
+put_full_buffer_spec =
     tie.close
     (tie.spec
     (λ c. search rules)

@@ -4,8 +4,8 @@ use Rattle.lines.proofs.Texts.{tests}
 use Rattle.lines.proofs.put_letter.Statement.{statement}
 use Rattle.lines.proofs.put_letter.Tie as tie
 
-pub put-letter-spec : {M : Type 1} → statement M
-put-letter-spec =
+pub put_letter_spec : {M : Type 1} → statement M
+put_letter_spec =
     tie.close
     (tie.spec
     (λ c. search rules)

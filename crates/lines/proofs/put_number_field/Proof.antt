@@ -4,8 +4,8 @@ use Rattle.window.proofs.Laid.{then}
 use Rattle.lines.proofs.put_number_field.Statement.{statement}
 use Rattle.lines.proofs.put_number_field.Tie as tie
 
-pub put-number-field-spec : {M : Type 1} → statement M
-put-number-field-spec =
+pub put_number_field_spec : {M : Type 1} → statement M
+put_number_field_spec =
     tie.close
     (tie.spec
     (λ c κs. search rules)

@@ -1,12 +1,12 @@
 -- `lines::put_outcome` meets its contract, word by word. Assumes nothing.
 use borrow.Author.Rules.{rules}
-use Rattle.lines.specs.Lines.{outcomeWord}
+use Rattle.lines.specs.Lines.{outcome_word}
 use Rattle.window.proofs.Laid.{found}
 use Rattle.lines.proofs.put_outcome.Statement.{statement}
 use Rattle.lines.proofs.put_outcome.Tie as tie
 
-pub put-outcome-spec : {M : Type 1} → statement M
-put-outcome-spec =
+pub put_outcome_spec : {M : Type 1} → statement M
+put_outcome_spec =
     tie.close
     (tie.spec
     (λ c. search rules)
@@ -40,22 +40,22 @@ put-outcome-spec =
     (λ c. search rules)
     (λ c κs. search rules)
     (λ c. search rules)
-    (λ c. search (found outcomeWord))
+    (λ c. search (found outcome_word))
     (λ c. search rules)
-    (λ c. search (found outcomeWord))
+    (λ c. search (found outcome_word))
     (λ c. search rules)
-    (λ c. search (found outcomeWord))
+    (λ c. search (found outcome_word))
     (λ c. search rules)
-    (λ c. search (found outcomeWord))
+    (λ c. search (found outcome_word))
     (λ c. search rules)
-    (λ c. search (found outcomeWord))
+    (λ c. search (found outcome_word))
     (λ c. search rules)
-    (λ c. search (found outcomeWord))
+    (λ c. search (found outcome_word))
     (λ c. search rules)
-    (λ c. search (found outcomeWord))
+    (λ c. search (found outcome_word))
     (λ c. search rules)
-    (λ c. search (found outcomeWord))
+    (λ c. search (found outcome_word))
     (λ c. search rules)
-    (λ c. search (found outcomeWord))
+    (λ c. search (found outcome_word))
     (λ c. search rules)
-    (λ c. search (found outcomeWord)))
+    (λ c. search (found outcome_word)))

@@ -3,5 +3,5 @@ use borrow.Author.Rules.{rules}
 use Rattle.numerals.proofs.after_word.Statement.{statement}
 use Rattle.numerals.proofs.after_word.Tie as tie
 
-pub after-word-spec : {M : Type 1} → statement M
-after-word-spec = tie.close (tie.spec (λ c κs. search rules) (λ c κs. search rules) (λ c. cc))
+pub after_word_spec : {M : Type 1} → statement M
+after_word_spec = tie.close (tie.spec (λ c κs. search rules) (λ c κs. search rules) (λ c. cc))

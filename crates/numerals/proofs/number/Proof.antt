@@ -5,18 +5,18 @@ use mathlib.Core.Path.{◌≡◌}
 use lib.ListN.{length, drop}
 use borrow.Author.Rules.{rules}
 use Rattle.numerals.specs.Numbers.{number_of}
-use Rattle.numerals.proofs.Numbers.{numberAfter, digits}
+use Rattle.numerals.proofs.Numbers.{number_after, digits}
 use Rattle.numerals.proofs.number.Statement.{statement}
 use Rattle.numerals.proofs.number.Tie as tie
 
 abbrev invariant-loop : tie.invariant-loop
-invariant-loop s base value₀ i₀ i-end value i = (i ≤ length s) × (value ≤ 4294967295) × (number_of base s ≡ numberAfter base value (drop i s))
+invariant-loop s base value₀ i₀ i-end value i = (i ≤ length s) × (value ≤ 4294967295) × (number_of base s ≡ number_after base value (drop i s))
 
 abbrev decreases-loop : tie.decreases-loop
 decreases-loop s base value₀ i₀ i-end value i = length s - i
 
-pub number-spec : {M : Type 1} → statement M
-number-spec =
+pub number_spec : {M : Type 1} → statement M
+number_spec =
     tie.close
     (tie.spec
     invariant-loop

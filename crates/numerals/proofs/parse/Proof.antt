@@ -4,8 +4,8 @@ use Rattle.numerals.proofs.Numbers.{bases}
 use Rattle.numerals.proofs.parse.Statement.{statement}
 use Rattle.numerals.proofs.parse.Tie as tie
 
-pub parse-spec : {M : Type 1} → statement M
-parse-spec =
+pub parse_spec : {M : Type 1} → statement M
+parse_spec =
     tie.close
     (tie.spec
     (λ c κs. search rules)

@@ -4,19 +4,19 @@ use mathlib.Core.Path.{◌≡◌}
 use native.Mathlib.Omega.{arith}
 use lib.ListN.{length, length-take, length-drop}
 use borrow.Author.Rules.{rules}
-use Rattle.numerals.specs.Numbers.{significantOf}
+use Rattle.numerals.specs.Numbers.{significant_of}
 use Rattle.numerals.proofs.Spelling.{zeros}
 use Rattle.numerals.proofs.significant.Statement.{statement}
 use Rattle.numerals.proofs.significant.Tie as tie
 
 abbrev invariant-loop : tie.invariant-loop
-invariant-loop s rest₀ rest = significantOf s ≡ significantOf rest
+invariant-loop s rest₀ rest = significant_of s ≡ significant_of rest
 
 abbrev decreases-loop : tie.decreases-loop
 decreases-loop s rest₀ rest = length rest
 
-pub significant-spec : {M : Type 1} → statement M
-significant-spec =
+pub significant_spec : {M : Type 1} → statement M
+significant_spec =
     tie.close
     (tie.spec
     invariant-loop

@@ -4,19 +4,19 @@ use mathlib.Core.Path.{◌≡◌}
 use native.Mathlib.Omega.{arith}
 use lib.ListN.{length, length-take, length-drop}
 use borrow.Author.Rules.{rules}
-use Rattle.numerals.specs.Words.{blankIs, dropWhile}
+use Rattle.numerals.specs.Words.{blank_is, drop_while}
 use Rattle.numerals.proofs.Words.{turns}
 use Rattle.numerals.proofs.skip.Statement.{statement}
 use Rattle.numerals.proofs.skip.Tie as tie
 
 abbrev invariant-loop : tie.invariant-loop
-invariant-loop s blank rest₀ rest = dropWhile (blankIs blank) s ≡ dropWhile (blankIs blank) rest
+invariant-loop s blank rest₀ rest = drop_while (blank_is blank) s ≡ drop_while (blank_is blank) rest
 
 abbrev decreases-loop : tie.decreases-loop
 decreases-loop s blank rest₀ rest = length rest
 
-pub skip-spec : {M : Type 1} → statement M
-skip-spec =
+pub skip_spec : {M : Type 1} → statement M
+skip_spec =
     tie.close
     (tie.spec
     invariant-loop

@@ -6,20 +6,20 @@ use mathlib.Core.List.{◌++◌}
 use native.Mathlib.Omega.{arith}
 use lib.ListN.{length, drop, length-set}
 use borrow.Author.Rules.{rules}
-use Rattle.numerals.specs.Numbers.{spelledOf}
+use Rattle.numerals.specs.Numbers.{spelled_of}
 use Rattle.numerals.proofs.Spelling.{below, starts, writes, ends}
 use Rattle.numerals.proofs.spell.Statement.{statement}
 use Rattle.numerals.proofs.spell.Tie as tie
 
 abbrev invariant-loop : tie.invariant-loop
 invariant-loop n base text₀ rest₀ i₀ text rest i =
-    (i ≤ length text) × (length text ≡ length text₀) × (spelledOf base i rest ++ drop i text ≡ spelledOf base (length text₀) n)
+    (i ≤ length text) × (length text ≡ length text₀) × (spelled_of base i rest ++ drop i text ≡ spelled_of base (length text₀) n)
 
 abbrev decreases-loop : tie.decreases-loop
 decreases-loop n base text₀ rest₀ i₀ text rest i = i
 
-pub spell-spec : {M : Type 1} → statement M
-spell-spec =
+pub spell_spec : {M : Type 1} → statement M
+spell_spec =
     tie.close
     (tie.spec
     invariant-loop

@@ -5,19 +5,19 @@ use mathlib.Core.Path.{◌≡◌, refl}
 use mathlib.Core.List.{◌++◌}
 use native.Mathlib.Omega.{arith}
 use lib.ListN.{length, drop, length-set}
-use Rattle.numerals.specs.Numbers.{spelledOf}
+use Rattle.numerals.specs.Numbers.{spelled_of}
 use Rattle.numerals.proofs.Spelling.{starts, writes, ends}
 use Rattle.numerals.proofs.spell_wide.Statement.{statement}
 use Rattle.numerals.proofs.spell_wide.Tie as tie
 
 abbrev invariant-loop : tie.invariant-loop
-invariant-loop n text₀ rest₀ i₀ text rest i = (i ≤ length text) × (length text ≡ length text₀) × (spelledOf 10 i rest ++ drop i text ≡ spelledOf 10 (length text₀) n)
+invariant-loop n text₀ rest₀ i₀ text rest i = (i ≤ length text) × (length text ≡ length text₀) × (spelled_of 10 i rest ++ drop i text ≡ spelled_of 10 (length text₀) n)
 
 abbrev decreases-loop : tie.decreases-loop
 decreases-loop n text₀ rest₀ i₀ text rest i = i
 
-pub spell-wide-spec : {M : Type 1} → statement M
-spell-wide-spec =
+pub spell_wide_spec : {M : Type 1} → statement M
+spell_wide_spec =
     tie.close
     (tie.spec
     invariant-loop

@@ -1,12 +1,12 @@
 -- `page::lay_out` meets its contract. Assumes nothing.
 use borrow.Author.Rules.{rules}
 use borrow.Author.Tests.{not-true, not-false}
-use Rattle.page.proofs.Logs.{unsound, too_long, laid-whole}
+use Rattle.page.proofs.Logs.{unsound, too_long, laid_whole}
 use Rattle.page.proofs.lay_out.Statement.{statement}
 use Rattle.page.proofs.lay_out.Tie as tie
 
-pub lay-out-spec : {M : Type 1} → statement M
-lay-out-spec =
+pub lay_out_spec : {M : Type 1} → statement M
+lay_out_spec =
     tie.close
     (tie.spec
     (λ c κs. search rules)
@@ -18,5 +18,5 @@ lay-out-spec =
     (λ c κs. search rules)
     (λ c. search rules)
     (λ c. search rules)
-    (λ c. search (rules, laid-whole, not-false))
+    (λ c. search (rules, laid_whole, not-false))
     (λ c. search (rules, too_long, not-false)))

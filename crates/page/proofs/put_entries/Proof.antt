@@ -4,20 +4,20 @@ use Prim.Native.Nat.{◌+◌, ◌≤◌, ◌<◌}
 use mathlib.Core.Path.{◌≡◌, refl}
 use native.Mathlib.Omega.{arith}
 use lib.ListN.{length, length-take, length-drop}
-use Rattle.window.specs.Window.{laid, emitOf}
-use Rattle.page.specs.Page.{entriesText}
-use Rattle.page.proofs.Logs.{same_start, entries-put, next-entry}
+use Rattle.window.specs.Window.{laid, emit_of}
+use Rattle.page.specs.Page.{entries_text}
+use Rattle.page.proofs.Logs.{same_start, entries_put, next_entry}
 use Rattle.page.proofs.put_entries.Statement.{statement}
 use Rattle.page.proofs.put_entries.Tie as tie
 
 abbrev invariant-loop : tie.invariant-loop
-invariant-loop first log out₀ q₀ n₀ rest₀ out q n rest = (length out ≡ length out₀) × (n < 1000000) × (emitOf (entriesText n rest) (laid q out) ≡ emitOf (entriesText first log) (laid q₀ out₀))
+invariant-loop first log out₀ q₀ n₀ rest₀ out q n rest = (length out ≡ length out₀) × (n < 1000000) × (emit_of (entries_text n rest) (laid q out) ≡ emit_of (entries_text first log) (laid q₀ out₀))
 
 abbrev decreases-loop : tie.decreases-loop
 decreases-loop first log out₀ q₀ n₀ rest₀ out q n rest = length rest
 
-pub put-entries-spec : {M : Type 1} → statement M
-put-entries-spec =
+pub put_entries_spec : {M : Type 1} → statement M
+put_entries_spec =
     tie.close
     (tie.spec
     invariant-loop
@@ -33,6 +33,6 @@ put-entries-spec =
     (λ c. search rules)
     (λ c κs. search rules)
     (λ c. simp (length-take, length-drop) (omega arith))
-    (λ c. (search rules, search rules, search (rules, next-entry)))
+    (λ c. (search rules, search rules, search (rules, next_entry)))
     (λ c. search rules)
-    (λ c. search (rules, entries-put)))
+    (λ c. search (rules, entries_put)))

@@ -11,8 +11,8 @@ invariant-loop log words₀ out₀ part₀ t7 words out part = part ≤ 1024
 abbrev decreases-loop : tie.decreases-loop
 decreases-loop log words₀ out₀ part₀ t7 words out part = 1024 - part
 
-pub print-spec : {M : Type 1} → statement M
-print-spec =
+pub print_spec : {M : Type 1} → statement M
+print_spec =
     tie.close
     (tie.spec
     invariant-loop

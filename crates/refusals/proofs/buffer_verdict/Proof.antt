@@ -4,5 +4,5 @@ use Rattle.kinds.proofs.Branch.{branches}
 use Rattle.refusals.proofs.buffer_verdict.Statement.{statement}
 use Rattle.refusals.proofs.buffer_verdict.Tie as tie
 
-pub buffer-verdict-spec : {M : Type 1} → statement M
-buffer-verdict-spec = tie.close (tie.spec (λ c κs. search rules) (λ c. search branches) (λ c. search branches))
+pub buffer_verdict_spec : {M : Type 1} → statement M
+buffer_verdict_spec = tie.close (tie.spec (λ c κs. search rules) (λ c. search branches) (λ c. search branches))

@@ -1,12 +1,12 @@
 -- `driver::check::check` meets its contract, by what was looked up. Assumes nothing.
 use borrow.Author.Rules.{rules}
-use Rattle.calls.specs.Refusals.{checkOf}
+use Rattle.calls.specs.Refusals.{check_of}
 use Rattle.refusals.proofs.check.Statement.{statement}
 use Rattle.refusals.proofs.check.Tie as tie
 
-pub check-spec : {M : Type 1} → statement M
-unfolding checkOf
-check-spec =
+pub check_spec : {M : Type 1} → statement M
+unfolding check_of
+check_spec =
     tie.close
     (tie.spec
     (λ c κs. search rules)

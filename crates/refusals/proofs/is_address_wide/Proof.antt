@@ -3,8 +3,8 @@ use borrow.Author.Rules.{rules}
 use Rattle.refusals.proofs.is_address_wide.Statement.{statement}
 use Rattle.refusals.proofs.is_address_wide.Tie as tie
 
-pub is-address-wide-spec : {M : Type 1} → statement M
-is-address-wide-spec =
+pub is_address_wide_spec : {M : Type 1} → statement M
+is_address_wide_spec =
     tie.close
     (tie.spec
     (λ c κs. search rules)

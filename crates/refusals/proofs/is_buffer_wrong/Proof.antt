@@ -3,8 +3,8 @@ use borrow.Author.Rules.{rules}
 use Rattle.refusals.proofs.is_buffer_wrong.Statement.{statement}
 use Rattle.refusals.proofs.is_buffer_wrong.Tie as tie
 
-pub is-buffer-wrong-spec : {M : Type 1} → statement M
-is-buffer-wrong-spec =
+pub is_buffer_wrong_spec : {M : Type 1} → statement M
+is_buffer_wrong_spec =
     tie.close
     (tie.spec
     (λ c κs. search rules)

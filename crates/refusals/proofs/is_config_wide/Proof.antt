@@ -3,8 +3,8 @@ use borrow.Author.Rules.{rules}
 use Rattle.refusals.proofs.is_config_wide.Statement.{statement}
 use Rattle.refusals.proofs.is_config_wide.Tie as tie
 
-pub is-config-wide-spec : {M : Type 1} → statement M
-is-config-wide-spec =
+pub is_config_wide_spec : {M : Type 1} → statement M
+is_config_wide_spec =
     tie.close
     (tie.spec
     (λ c. search rules)

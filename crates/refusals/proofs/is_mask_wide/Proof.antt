@@ -3,8 +3,8 @@ use borrow.Author.Rules.{rules}
 use Rattle.refusals.proofs.is_mask_wide.Statement.{statement}
 use Rattle.refusals.proofs.is_mask_wide.Tie as tie
 
-pub is-mask-wide-spec : {M : Type 1} → statement M
-is-mask-wide-spec =
+pub is_mask_wide_spec : {M : Type 1} → statement M
+is_mask_wide_spec =
     tie.close
     (tie.spec
     (λ c. search rules)

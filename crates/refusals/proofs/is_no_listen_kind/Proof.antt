@@ -3,5 +3,5 @@ use borrow.Author.Rules.{rules}
 use Rattle.refusals.proofs.is_no_listen_kind.Statement.{statement}
 use Rattle.refusals.proofs.is_no_listen_kind.Tie as tie
 
-pub is-no-listen-kind-spec : {M : Type 1} → statement M
-is-no-listen-kind-spec = tie.close (tie.spec (λ c κs. search rules) (λ c κs. search rules) (λ c. cc))
+pub is_no_listen_kind_spec : {M : Type 1} → statement M
+is_no_listen_kind_spec = tie.close (tie.spec (λ c κs. search rules) (λ c κs. search rules) (λ c. cc))

@@ -3,8 +3,8 @@ use borrow.Author.Rules.{rules}
 use Rattle.refusals.proofs.is_secondary_wide.Statement.{statement}
 use Rattle.refusals.proofs.is_secondary_wide.Tie as tie
 
-pub is-secondary-wide-spec : {M : Type 1} → statement M
-is-secondary-wide-spec =
+pub is_secondary_wide_spec : {M : Type 1} → statement M
+is_secondary_wide_spec =
     tie.close
     (tie.spec
     (λ c. search rules)

@@ -3,5 +3,5 @@ use borrow.Author.Rules.{rules}
 use Rattle.refusals.proofs.is_strange.Statement.{statement}
 use Rattle.refusals.proofs.is_strange.Tie as tie
 
-pub is-strange-spec : {M : Type 1} → statement M
-is-strange-spec = tie.close (tie.spec (λ c κs. search rules) (λ c. cc))
+pub is_strange_spec : {M : Type 1} → statement M
+is_strange_spec = tie.close (tie.spec (λ c κs. search rules) (λ c. cc))

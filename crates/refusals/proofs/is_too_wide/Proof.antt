@@ -3,8 +3,8 @@ use borrow.Author.Rules.{rules}
 use Rattle.refusals.proofs.is_too_wide.Statement.{statement}
 use Rattle.refusals.proofs.is_too_wide.Tie as tie
 
-pub is-too-wide-spec : {M : Type 1} → statement M
-is-too-wide-spec =
+pub is_too_wide_spec : {M : Type 1} → statement M
+is_too_wide_spec =
     tie.close
     (tie.spec
     (λ c. search rules)

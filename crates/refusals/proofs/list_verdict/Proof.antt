@@ -4,8 +4,8 @@ use Rattle.refusals.proofs.Lists.{list-rows}
 use Rattle.refusals.proofs.list_verdict.Statement.{statement}
 use Rattle.refusals.proofs.list_verdict.Tie as tie
 
-pub list-verdict-spec : {M : Type 1} → statement M
-list-verdict-spec =
+pub list_verdict_spec : {M : Type 1} → statement M
+list_verdict_spec =
     tie.close
     (tie.spec
     (λ c κs. search rules)

@@ -3,8 +3,8 @@ use borrow.Author.Rules.{rules}
 use Rattle.saved.proofs.outcome_of.Statement.{statement}
 use Rattle.saved.proofs.outcome_of.Tie as tie
 
-pub outcome-of-spec : {M : Type 1} → statement M
-outcome-of-spec =
+pub outcome_of_spec : {M : Type 1} → statement M
+outcome_of_spec =
     tie.close
     (tie.spec
     (λ c κs. search rules)

@@ -1,6 +1,6 @@
 -- `read` meets its contract. Assumes nothing.
 use borrow.Author.Rules.{rules}
-use Rattle.saved.proofs.Bytes.{read_here, not-read}
+use Rattle.saved.proofs.Bytes.{read_here, not_read}
 use Rattle.saved.proofs.read.Statement.{statement}
 use Rattle.saved.proofs.read.Tie as tie
 
@@ -13,4 +13,4 @@ read_spec =
     (λ c κs. search rules)
     (λ c. read_here _ c.before.before.before.if1.true _ _ _ c.before.before.step_of_lem.ensures c.before.outcome-of.ensures c.read-with.ensures)
     (λ c κs. search rules)
-    (λ c. not-read _ c.before.if1.false _ c.no_call.ensures))
+    (λ c. not_read _ c.before.if1.false _ c.no_call.ensures))

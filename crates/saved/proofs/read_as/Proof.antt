@@ -3,8 +3,8 @@ use borrow.Author.Rules.{rules}
 use Rattle.saved.proofs.read_as.Statement.{statement}
 use Rattle.saved.proofs.read_as.Tie as tie
 
-pub read-as-spec : {M : Type 1} → statement M
-read-as-spec =
+pub read_as_spec : {M : Type 1} → statement M
+read_as_spec =
     tie.close
     (tie.spec
     (λ c κs. search rules)

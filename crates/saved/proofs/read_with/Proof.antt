@@ -3,8 +3,8 @@ use borrow.Author.Rules.{rules}
 use Rattle.saved.proofs.read_with.Statement.{statement}
 use Rattle.saved.proofs.read_with.Tie as tie
 
-pub read-with-spec : {M : Type 1} → statement M
-read-with-spec =
+pub read_with_spec : {M : Type 1} → statement M
+read_with_spec =
     tie.close
     (tie.spec
     (λ c. search rules)

@@ -3,8 +3,8 @@ use borrow.Author.Rules.{rules}
 use Rattle.saved.proofs.step_of.Statement.{statement}
 use Rattle.saved.proofs.step_of.Tie as tie
 
-pub step-of-spec : {M : Type 1} → statement M
-step-of-spec =
+pub step_of_spec : {M : Type 1} → statement M
+step_of_spec =
     tie.close
     (tie.spec
     (λ c κs. search rules)

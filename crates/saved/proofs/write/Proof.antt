@@ -1,7 +1,7 @@
 -- `write` meets its contract. Assumes nothing.
 use borrow.Author.Rules.{rules}
 use mathlib.Core.Path.{refl}
-use Rattle.saved.proofs.Bytes.{written-here, not_written}
+use Rattle.saved.proofs.Bytes.{written_here, not_written}
 use Rattle.saved.proofs.write.Statement.{statement}
 use Rattle.saved.proofs.write.Tie as tie
 
@@ -19,5 +19,5 @@ write_spec =
     let o = c.before.before.before.before.before.before.before.number.ensures in
     let v = c.before.before.before.before.before.before.value.ensures in
     let t = c.before.before.before.before.before.step-number.ensures in
-    written-here _ c.before.before.before.before.before.before.before.before.if1.true _ _ _ c.before.before.encode.ensures (rw (o, v, t)))
+    written_here _ c.before.before.before.before.before.before.before.before.if1.true _ _ _ c.before.before.encode.ensures (rw (o, v, t)))
     (λ c. not_written _ c.if1.false _ _ refl))

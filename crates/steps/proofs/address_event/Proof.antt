@@ -4,8 +4,8 @@ use borrow.Author.Rules.{rules}
 use Rattle.steps.proofs.address_event.Statement.{statement}
 use Rattle.steps.proofs.address_event.Tie as tie
 
-pub address-event-spec : {M : Type 1} → statement M
-address-event-spec =
+pub address_event_spec : {M : Type 1} → statement M
+address_event_spec =
     tie.close
     (tie.spec
     (λ c κs. search rules)

@@ -4,8 +4,8 @@ use borrow.Author.Rules.{rules}
 use Rattle.steps.proofs.address_found.Statement.{statement}
 use Rattle.steps.proofs.address_found.Tie as tie
 
-pub address-found-spec : {M : Type 1} → statement M
-address-found-spec =
+pub address_found_spec : {M : Type 1} → statement M
+address_found_spec =
     tie.close
     (tie.spec
     (λ c κs. search rules)

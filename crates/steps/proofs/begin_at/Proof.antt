@@ -3,8 +3,8 @@ use borrow.Author.Rules.{rules}
 use Rattle.steps.proofs.begin_at.Statement.{statement}
 use Rattle.steps.proofs.begin_at.Tie as tie
 
-pub begin-at-spec : {M : Type 1} → statement M
-begin-at-spec =
+pub begin_at_spec : {M : Type 1} → statement M
+begin_at_spec =
     tie.close
     (tie.spec
     (λ c κs. search rules)

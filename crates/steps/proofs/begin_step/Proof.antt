@@ -4,8 +4,8 @@ use borrow.Author.Rules.{rules}
 use Rattle.steps.proofs.begin_step.Statement.{statement}
 use Rattle.steps.proofs.begin_step.Tie as tie
 
-pub begin-step-spec : {M : Type 1} → statement M
-begin-step-spec =
+pub begin_step_spec : {M : Type 1} → statement M
+begin_step_spec =
     tie.close
     (tie.spec
     (λ c κs. search rules)

@@ -4,8 +4,8 @@ use borrow.Author.Rules.{rules}
 use Rattle.steps.proofs.byte_moved.Statement.{statement}
 use Rattle.steps.proofs.byte_moved.Tie as tie
 
-pub byte-moved-spec : {M : Type 1} → statement M
-byte-moved-spec =
+pub byte_moved_spec : {M : Type 1} → statement M
+byte_moved_spec =
     tie.close
     (tie.spec
     (λ c κs. search rules)

@@ -3,8 +3,8 @@ use borrow.Author.Rules.{rules}
 use Rattle.steps.proofs.byte_there.Statement.{statement}
 use Rattle.steps.proofs.byte_there.Tie as tie
 
-pub byte-there-spec : {M : Type 1} → statement M
-byte-there-spec =
+pub byte_there_spec : {M : Type 1} → statement M
+byte_there_spec =
     tie.close
     (tie.spec
     (λ c κs. search rules)

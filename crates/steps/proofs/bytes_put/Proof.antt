@@ -4,8 +4,8 @@ use borrow.Author.Rules.{rules}
 use Rattle.steps.proofs.bytes_put.Statement.{statement}
 use Rattle.steps.proofs.bytes_put.Tie as tie
 
-pub bytes-put-spec : {M : Type 1} → statement M
-bytes-put-spec =
+pub bytes_put_spec : {M : Type 1} → statement M
+bytes_put_spec =
     tie.close
     (tie.spec
     (λ c κs. search rules)

@@ -4,8 +4,8 @@ use borrow.Author.Rules.{rules}
 use Rattle.steps.proofs.clear_step.Statement.{statement}
 use Rattle.steps.proofs.clear_step.Tie as tie
 
-pub clear-step-spec : {M : Type 1} → statement M
-clear-step-spec =
+pub clear_step_spec : {M : Type 1} → statement M
+clear_step_spec =
     tie.close
     (tie.spec
     (λ c κs. search rules)

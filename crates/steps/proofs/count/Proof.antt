@@ -13,4 +13,4 @@ count_spec =
     (λ c. simp (← c.before.before.before.is-receiver.ensures, c.before.before.if1.true))
     (λ c κs. search rules)
     (λ c κs. search rules)
-    (λ c. simp (← c.before.before.before.is-receiver.ensures, c.before.before.if1.false, c.less_one.ensures, c.before.bytes-put.ensures)))
+    (λ c. simp (← c.before.before.before.is-receiver.ensures, c.before.before.if1.false, c.less_one.ensures, c.before.bytes_put_holds.ensures)))

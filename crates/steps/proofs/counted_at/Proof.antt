@@ -3,8 +3,8 @@ use borrow.Author.Rules.{rules}
 use Rattle.steps.proofs.counted_at.Statement.{statement}
 use Rattle.steps.proofs.counted_at.Tie as tie
 
-pub counted-at-spec : {M : Type 1} → statement M
-counted-at-spec =
+pub counted_at_spec : {M : Type 1} → statement M
+counted_at_spec =
     tie.close
     (tie.spec
     (λ c κs. search rules)

@@ -4,8 +4,8 @@ use borrow.Author.Rules.{rules}
 use Rattle.steps.proofs.effect.Statement.{statement}
 use Rattle.steps.proofs.effect.Tie as tie
 
-pub effect-spec : {M : Type 1} → statement M
-effect-spec =
+pub effect_spec : {M : Type 1} → statement M
+effect_spec =
     tie.close
     (tie.spec
     (λ c. search rules)

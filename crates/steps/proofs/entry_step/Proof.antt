@@ -4,8 +4,8 @@ use borrow.Author.Rules.{rules}
 use Rattle.steps.proofs.entry_step.Statement.{statement}
 use Rattle.steps.proofs.entry_step.Tie as tie
 
-pub entry-step-spec : {M : Type 1} → statement M
-entry-step-spec =
+pub entry_step_spec : {M : Type 1} → statement M
+entry_step_spec =
     tie.close
     (tie.spec
     (λ c κs. search rules)

@@ -4,8 +4,8 @@ use borrow.Author.Rules.{rules}
 use Rattle.steps.proofs.error_or.Statement.{statement}
 use Rattle.steps.proofs.error_or.Tie as tie
 
-pub error-or-spec : {M : Type 1} → statement M
-error-or-spec =
+pub error_or_spec : {M : Type 1} → statement M
+error_or_spec =
     tie.close
     (tie.spec
     (λ c κs. search rules)

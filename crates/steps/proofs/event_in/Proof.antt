@@ -1,13 +1,13 @@
 -- `event_in` meets its contract: what error_or ensures, and the branch under it. Assumes nothing.
 use mathlib.Core.Path.{◌∙◌, ap}
-use Rattle.calls.specs.Steps.{errorOr}
+use Rattle.calls.specs.Steps.{error_or}
 use Rattle.kinds.proofs.Branch.{branches}
 use borrow.Author.Rules.{rules}
 use Rattle.steps.proofs.event_in.Statement.{statement}
 use Rattle.steps.proofs.event_in.Tie as tie
 
-pub event-in-spec : {M : Type 1} → statement M
-event-in-spec =
+pub event_in_spec : {M : Type 1} → statement M
+event_in_spec =
     tie.close
     (tie.spec
     (λ c κs. search rules)
@@ -15,13 +15,13 @@ event-in-spec =
     (λ c κs. search rules)
     (λ c κs. search rules)
     (λ c κs. search rules)
-    (λ c. c.error-or.ensures ∙ ap (errorOr _) (rw (← c.before.before.addcode.ensures) (search branches)))
+    (λ c. c.error-or.ensures ∙ ap (error_or _) (rw (← c.before.before.addcode.ensures) (search branches)))
     (λ c κs. search rules)
     (λ c κs. search rules)
     (λ c κs. search rules)
-    (λ c. c.error-or2.ensures ∙ ap (errorOr _) (rw (← c.before.before.addcode2.ensures) (search branches)))
+    (λ c. c.error-or2.ensures ∙ ap (error_or _) (rw (← c.before.before.addcode2.ensures) (search branches)))
     (λ c κs. search rules)
     (λ c κs. search rules)
-    (λ c. c.error-or3.ensures ∙ ap (errorOr _) (search branches))
+    (λ c. c.error-or3.ensures ∙ ap (error_or _) (search branches))
     (λ c κs. search rules)
-    (λ c. c.error-or4.ensures ∙ ap (errorOr _) (search branches)))
+    (λ c. c.error-or4.ensures ∙ ap (error_or _) (search branches)))

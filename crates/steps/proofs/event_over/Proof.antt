@@ -4,8 +4,8 @@ use borrow.Author.Rules.{rules}
 use Rattle.steps.proofs.event_over.Statement.{statement}
 use Rattle.steps.proofs.event_over.Tie as tie
 
-pub event-over-spec : {M : Type 1} → statement M
-event-over-spec =
+pub event_over_spec : {M : Type 1} → statement M
+event_over_spec =
     tie.close
     (tie.spec
     (λ c κs. search rules)

@@ -4,8 +4,8 @@ use borrow.Author.Rules.{rules}
 use Rattle.steps.proofs.fail.Statement.{statement}
 use Rattle.steps.proofs.fail.Tie as tie
 
-pub fail-spec : {M : Type 1} → statement M
-fail-spec =
+pub fail_spec : {M : Type 1} → statement M
+fail_spec =
     tie.close
     (tie.spec
     (λ c κs. search rules)

@@ -4,8 +4,8 @@ use borrow.Author.Rules.{rules}
 use Rattle.steps.proofs.find_address.Statement.{statement}
 use Rattle.steps.proofs.find_address.Tie as tie
 
-pub find-address-spec : {M : Type 1} → statement M
-find-address-spec =
+pub find_address_spec : {M : Type 1} → statement M
+find_address_spec =
     tie.close
     (tie.spec
     (λ c κs. search rules)

@@ -4,8 +4,8 @@ use borrow.Author.Rules.{rules}
 use Rattle.steps.proofs.flag_awaited.Statement.{statement}
 use Rattle.steps.proofs.flag_awaited.Tie as tie
 
-pub flag-awaited-spec : {M : Type 1} → statement M
-flag-awaited-spec =
+pub flag_awaited_spec : {M : Type 1} → statement M
+flag_awaited_spec =
     tie.close
     (tie.spec
     (λ c κs. search rules)

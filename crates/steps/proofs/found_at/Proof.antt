@@ -3,8 +3,8 @@ use borrow.Author.Rules.{rules}
 use Rattle.steps.proofs.found_at.Statement.{statement}
 use Rattle.steps.proofs.found_at.Tie as tie
 
-pub found-at-spec : {M : Type 1} → statement M
-found-at-spec =
+pub found_at_spec : {M : Type 1} → statement M
+found_at_spec =
     tie.close
     (tie.spec
     (λ c κs. search rules)

@@ -3,8 +3,8 @@ use Rattle.kinds.proofs.Branch.{branches}
 use Rattle.steps.proofs.goes_if.Statement.{statement}
 use Rattle.steps.proofs.goes_if.Tie as tie
 
-pub goes-if-spec : {M : Type 1} → statement M
-goes-if-spec =
+pub goes_if_spec : {M : Type 1} → statement M
+goes_if_spec =
     tie.close
     (tie.spec
     (λ c. search branches)

@@ -5,8 +5,8 @@ use borrow.Author.Rules.{rules}
 use Rattle.steps.proofs.is_address.Statement.{statement}
 use Rattle.steps.proofs.is_address.Tie as tie
 
-pub is-address-spec : {M : Type 1} → statement M
-is-address-spec =
+pub is_address_spec : {M : Type 1} → statement M
+is_address_spec =
     tie.close
     (tie.spec
     (λ c. search rules)

@@ -5,8 +5,8 @@ use borrow.Author.Rules.{rules}
 use Rattle.steps.proofs.is_byte.Statement.{statement}
 use Rattle.steps.proofs.is_byte.Tie as tie
 
-pub is-byte-spec : {M : Type 1} → statement M
-is-byte-spec =
+pub is_byte_spec : {M : Type 1} → statement M
+is_byte_spec =
     tie.close
     (tie.spec
     (λ c. search rules)

@@ -5,8 +5,8 @@ use borrow.Author.Rules.{rules}
 use Rattle.steps.proofs.is_ended.Statement.{statement}
 use Rattle.steps.proofs.is_ended.Tie as tie
 
-pub is-ended-spec : {M : Type 1} → statement M
-is-ended-spec =
+pub is_ended_spec : {M : Type 1} → statement M
+is_ended_spec =
     tie.close
     (tie.spec
     (λ c. search rules)

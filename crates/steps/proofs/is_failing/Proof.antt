@@ -4,8 +4,8 @@ use borrow.Author.Rules.{rules}
 use Rattle.steps.proofs.is_failing.Statement.{statement}
 use Rattle.steps.proofs.is_failing.Tie as tie
 
-pub is-failing-spec : {M : Type 1} → statement M
-is-failing-spec =
+pub is_failing_spec : {M : Type 1} → statement M
+is_failing_spec =
     tie.close
     (tie.spec
     (λ c κs. search rules)

@@ -4,8 +4,8 @@ use borrow.Author.Rules.{rules}
 use Rattle.steps.proofs.is_listening.Statement.{statement}
 use Rattle.steps.proofs.is_listening.Tie as tie
 
-pub is-listening-spec : {M : Type 1} → statement M
-is-listening-spec =
+pub is_listening_spec : {M : Type 1} → statement M
+is_listening_spec =
     tie.close
     (tie.spec
     (λ c κs. search rules)

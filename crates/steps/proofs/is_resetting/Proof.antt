@@ -4,8 +4,8 @@ use borrow.Author.Rules.{rules}
 use Rattle.steps.proofs.is_resetting.Statement.{statement}
 use Rattle.steps.proofs.is_resetting.Tie as tie
 
-pub is-resetting-spec : {M : Type 1} → statement M
-is-resetting-spec =
+pub is_resetting_spec : {M : Type 1} → statement M
+is_resetting_spec =
     tie.close
     (tie.spec
     (λ c κs. search rules)

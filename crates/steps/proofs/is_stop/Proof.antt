@@ -4,8 +4,8 @@ use borrow.Author.Rules.{rules}
 use Rattle.steps.proofs.is_stop.Statement.{statement}
 use Rattle.steps.proofs.is_stop.Tie as tie
 
-pub is-stop-spec : {M : Type 1} → statement M
-is-stop-spec =
+pub is_stop_spec : {M : Type 1} → statement M
+is_stop_spec =
     tie.close
     (tie.spec
     (λ c κs. search rules)

@@ -3,8 +3,8 @@ use borrow.Author.Rules.{rules}
 use Rattle.steps.proofs.is_ten_bit_header.Statement.{statement}
 use Rattle.steps.proofs.is_ten_bit_header.Tie as tie
 
-pub is-ten-bit-header-spec : {M : Type 1} → statement M
-is-ten-bit-header-spec =
+pub is_ten_bit_header_spec : {M : Type 1} → statement M
+is_ten_bit_header_spec =
     tie.close
     (tie.spec
     (λ c κs. search rules)

@@ -5,8 +5,8 @@ use borrow.Author.Rules.{rules}
 use Rattle.steps.proofs.is_wait.Statement.{statement}
 use Rattle.steps.proofs.is_wait.Tie as tie
 
-pub is-wait-spec : {M : Type 1} → statement M
-is-wait-spec =
+pub is_wait_spec : {M : Type 1} → statement M
+is_wait_spec =
     tie.close
     (tie.spec
     (λ c. search rules)

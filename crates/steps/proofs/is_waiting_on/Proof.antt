@@ -4,8 +4,8 @@ use borrow.Author.Rules.{rules}
 use Rattle.steps.proofs.is_waiting_on.Statement.{statement}
 use Rattle.steps.proofs.is_waiting_on.Tie as tie
 
-pub is-waiting-on-spec : {M : Type 1} → statement M
-is-waiting-on-spec =
+pub is_waiting_on_spec : {M : Type 1} → statement M
+is_waiting_on_spec =
     tie.close
     (tie.spec
     (λ c κs. search rules)

@@ -4,8 +4,8 @@ use borrow.Author.Rules.{rules}
 use Rattle.steps.proofs.nack_or.Statement.{statement}
 use Rattle.steps.proofs.nack_or.Tie as tie
 
-pub nack-or-spec : {M : Type 1} → statement M
-nack-or-spec =
+pub nack_or_spec : {M : Type 1} → statement M
+nack_or_spec =
     tie.close
     (tie.spec
     (λ c κs. search rules)

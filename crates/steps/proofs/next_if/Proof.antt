@@ -3,8 +3,8 @@ use Rattle.kinds.proofs.Branch.{branches}
 use Rattle.steps.proofs.next_if.Statement.{statement}
 use Rattle.steps.proofs.next_if.Tie as tie
 
-pub next-if-spec : {M : Type 1} → statement M
-next-if-spec =
+pub next_if_spec : {M : Type 1} → statement M
+next_if_spec =
     tie.close
     (tie.spec
     (λ c. search branches)

@@ -4,8 +4,8 @@ use borrow.Author.Rules.{rules}
 use Rattle.steps.proofs.not_acknowledged.Statement.{statement}
 use Rattle.steps.proofs.not_acknowledged.Tie as tie
 
-pub not-acknowledged-spec : {M : Type 1} → statement M
-not-acknowledged-spec =
+pub not_acknowledged_spec : {M : Type 1} → statement M
+not_acknowledged_spec =
     tie.close
     (tie.spec
     (λ c κs. search rules)

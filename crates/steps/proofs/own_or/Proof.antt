@@ -4,8 +4,8 @@ use borrow.Author.Rules.{rules}
 use Rattle.steps.proofs.own_or.Statement.{statement}
 use Rattle.steps.proofs.own_or.Tie as tie
 
-pub own-or-spec : {M : Type 1} → statement M
-own-or-spec =
+pub own_or_spec : {M : Type 1} → statement M
+own_or_spec =
     tie.close
     (tie.spec
     (λ c κs. search rules)

@@ -4,8 +4,8 @@ use borrow.Author.Rules.{rules}
 use Rattle.steps.proofs.own_then.Statement.{statement}
 use Rattle.steps.proofs.own_then.Tie as tie
 
-pub own-then-spec : {M : Type 1} → statement M
-own-then-spec =
+pub own_then_spec : {M : Type 1} → statement M
+own_then_spec =
     tie.close
     (tie.spec
     (λ c κs. search rules)

@@ -4,8 +4,8 @@ use borrow.Author.Rules.{rules}
 use Rattle.steps.proofs.readdress.Statement.{statement}
 use Rattle.steps.proofs.readdress.Tie as tie
 
-pub readdress-spec : {M : Type 1} → statement M
-readdress-spec =
+pub readdress_spec : {M : Type 1} → statement M
+readdress_spec =
     tie.close
     (tie.spec
     (λ c κs. search rules)

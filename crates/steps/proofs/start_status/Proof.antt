@@ -3,8 +3,8 @@ use borrow.Author.Rules.{rules}
 use Rattle.steps.proofs.start_status.Statement.{statement}
 use Rattle.steps.proofs.start_status.Tie as tie
 
-pub start-status-spec : {M : Type 1} → statement M
-start-status-spec =
+pub start_status_spec : {M : Type 1} → statement M
+start_status_spec =
     tie.close
     (tie.spec
     (λ c κs. search rules)

@@ -4,8 +4,8 @@ use borrow.Author.Rules.{rules}
 use Rattle.steps.proofs.stop_event.Statement.{statement}
 use Rattle.steps.proofs.stop_event.Tie as tie
 
-pub stop-event-spec : {M : Type 1} → statement M
-stop-event-spec =
+pub stop_event_spec : {M : Type 1} → statement M
+stop_event_spec =
     tie.close
     (tie.spec
     (λ c κs. search rules)

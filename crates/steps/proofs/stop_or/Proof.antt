@@ -4,8 +4,8 @@ use borrow.Author.Rules.{rules}
 use Rattle.steps.proofs.stop_or.Statement.{statement}
 use Rattle.steps.proofs.stop_or.Tie as tie
 
-pub stop-or-spec : {M : Type 1} → statement M
-stop-or-spec =
+pub stop_or_spec : {M : Type 1} → statement M
+stop_or_spec =
     tie.close
     (tie.spec
     (λ c κs. search rules)

@@ -4,8 +4,8 @@ use borrow.Author.Rules.{rules}
 use Rattle.steps.proofs.transfer.Statement.{statement}
 use Rattle.steps.proofs.transfer.Tie as tie
 
-pub transfer-spec : {M : Type 1} → statement M
-transfer-spec =
+pub transfer_spec : {M : Type 1} → statement M
+transfer_spec =
     tie.close
     (tie.spec
     (λ c κs. search rules)

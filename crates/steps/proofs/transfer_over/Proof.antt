@@ -4,8 +4,8 @@ use borrow.Author.Rules.{rules}
 use Rattle.steps.proofs.transfer_over.Statement.{statement}
 use Rattle.steps.proofs.transfer_over.Tie as tie
 
-pub transfer-over-spec : {M : Type 1} → statement M
-transfer-over-spec =
+pub transfer_over_spec : {M : Type 1} → statement M
+transfer_over_spec =
     tie.close
     (tie.spec
     (λ c κs. search rules)

@@ -4,8 +4,8 @@ use borrow.Author.Rules.{rules}
 use Rattle.steps.proofs.wait_at.Statement.{statement}
 use Rattle.steps.proofs.wait_at.Tie as tie
 
-pub wait-at-spec : {M : Type 1} → statement M
-wait-at-spec =
+pub wait_at_spec : {M : Type 1} → statement M
+wait_at_spec =
     tie.close
     (tie.spec
     (λ c. search rules)

@@ -5,8 +5,8 @@ use borrow.Author.Rules.{rules}
 use Rattle.steps.proofs.written.Statement.{statement}
 use Rattle.steps.proofs.written.Tie as tie
 
-pub written-spec : {M : Type 1} → statement M
-written-spec =
+pub written_spec : {M : Type 1} → statement M
+written_spec =
     tie.close
     (tie.spec
     (λ c. search rules)

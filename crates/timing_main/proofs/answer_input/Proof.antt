@@ -10,8 +10,8 @@ invariant-loop line₀ turns₀ line turns = Unit {0}
 abbrev decreases-loop : tie.decreases-loop
 decreases-loop line₀ turns₀ line turns = turns
 
-pub answer-input-spec : {M : Type 1} → statement M
-answer-input-spec =
+pub answer_input_spec : {M : Type 1} → statement M
+answer_input_spec =
     tie.close
     (tie.spec
     invariant-loop

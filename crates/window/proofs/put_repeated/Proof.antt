@@ -3,20 +3,20 @@
 use mathlib.Core.Path.{◌≡◌, refl}
 use lib.ListN.{length, replicate}
 use borrow.Author.Rules.{rules}
-use Rattle.window.specs.Window.{laid, emitOf}
-use Rattle.window.proofs.Laid.{all-repeated, once_more, rest-left-out}
+use Rattle.window.specs.Window.{laid, emit_of}
+use Rattle.window.proofs.Laid.{all_repeated, once_more, rest_left_out}
 use Rattle.window.proofs.put_repeated.Statement.{statement}
 use Rattle.window.proofs.put_repeated.Tie as tie
 
 abbrev invariant-loop : tie.invariant-loop
 invariant-loop b n out₀ q₀ left₀ out q left =
-    (length out ≡ length out₀) × (emitOf (replicate left b) (laid q out) ≡ emitOf (replicate n b) (laid q₀ out₀))
+    (length out ≡ length out₀) × (emit_of (replicate left b) (laid q out) ≡ emit_of (replicate n b) (laid q₀ out₀))
 
 abbrev decreases-loop : tie.decreases-loop
 decreases-loop b n out₀ q₀ left₀ out q left = left
 
-pub put-repeated-spec : {M : Type 1} → statement M
-put-repeated-spec =
+pub put_repeated_spec : {M : Type 1} → statement M
+put_repeated_spec =
     tie.close
     (tie.spec
     invariant-loop
@@ -24,10 +24,10 @@ put-repeated-spec =
     (λ c. (refl, refl))
     (λ c κs. search rules)
     (λ c. search rules)
-    (λ c. search (rules, rest-left-out))
+    (λ c. search (rules, rest_left_out))
     (λ c κs. search rules)
     (λ c. search rules)
     (λ c. search rules)
     (λ c. search (rules, once_more))
     (λ c. search rules)
-    (λ c. search (rules, all-repeated)))
+    (λ c. search (rules, all_repeated)))

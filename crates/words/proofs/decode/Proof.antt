@@ -15,8 +15,8 @@ invariant-loop bytes words₀ n₀ rest₀ words n rest =
 abbrev decreases-loop : tie.decreases-loop
 decreases-loop bytes words₀ n₀ rest₀ words n rest = length rest
 
-pub decode-spec : {M : Type 1} → statement M
-decode-spec =
+pub decode_spec : {M : Type 1} → statement M
+decode_spec =
     tie.close
     (tie.spec
     invariant-loop

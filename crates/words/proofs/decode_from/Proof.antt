@@ -4,8 +4,8 @@ use Rattle.words.proofs.decode_from.Tie as tie
 use borrow.Author.Rules.{rules}
 use Rattle.words.proofs.Turns.{froms}
 
-pub decode-from-spec : {M : Type 1} → statement M
-decode-from-spec =
+pub decode_from_spec : {M : Type 1} → statement M
+decode_from_spec =
     tie.close
     (tie.spec
     (λ c. search (rules, froms))

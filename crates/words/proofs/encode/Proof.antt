@@ -5,7 +5,7 @@ use borrow.Author.Rules.{rules}
 use mathlib.Core.Path.{◌≡◌, refl}
 use Prim.Native.Nat.{◌-◌, ◌*◌, ◌≤◌}
 use lib.ListN.{length}
-use Rattle.words.proofs.Turns.{begun, one-put, encodes}
+use Rattle.words.proofs.Turns.{begun, one_put, encodes}
 
 abbrev invariant-loop : tie.invariant-loop
 invariant-loop words bytes₀ n i₀ bytes i =
@@ -14,8 +14,8 @@ invariant-loop words bytes₀ n i₀ bytes i =
 abbrev decreases-loop : tie.decreases-loop
 decreases-loop words bytes₀ n i₀ bytes i = n - i
 
-pub encode-spec : {M : Type 1} → statement M
-encode-spec =
+pub encode_spec : {M : Type 1} → statement M
+encode_spec =
     tie.close
     (tie.spec
     invariant-loop
@@ -28,6 +28,6 @@ encode-spec =
     (λ c κs. search (rules, encodes))
     (λ c. search rules)
     (λ c. search rules)
-    (λ c. let v = c.before.before.before.before.before.before.loop.invariant in (search rules, search rules, search rules, search rules, one-put _ _ _ _ v.4 v.3 (search rules) _ _ refl c.before.before.put.ensures))
+    (λ c. let v = c.before.before.before.before.before.before.loop.invariant in (search rules, search rules, search rules, search rules, one_put _ _ _ _ v.4 v.3 (search rules) _ _ refl c.before.before.put.ensures))
     (λ c. search rules)
     (λ c. search (rules, encodes)))

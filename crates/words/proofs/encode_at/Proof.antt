@@ -4,8 +4,8 @@ use Rattle.words.proofs.encode_at.Tie as tie
 use borrow.Author.Rules.{rules}
 use Rattle.words.proofs.Turns.{ats, some_at}
 
-pub encode-at-spec : {M : Type 1} → statement M
-encode-at-spec =
+pub encode_at_spec : {M : Type 1} → statement M
+encode_at_spec =
     tie.close
     (tie.spec
     (λ c. search (rules, ats))

@@ -4,7 +4,7 @@ use Rattle.words.proofs.put.Tie as tie
 use borrow.Author.Rules.{rules}
 use native.Mathlib.Omega.{arith}
 use lib.ListN.{length-set}
-use Rattle.words.proofs.Turns.{four-set}
+use Rattle.words.proofs.Turns.{four_set}
 
 pub put_spec : {M : Type 1} → statement M
 put_spec =
@@ -22,4 +22,4 @@ put_spec =
     (λ c. search rules)
     (λ c. simp length-set (omega arith))
     (λ c. search rules)
-    (λ c. search (rules, four-set)))
+    (λ c. search (rules, four_set)))

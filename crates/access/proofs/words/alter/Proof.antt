@@ -1,12 +1,12 @@
 -- `words::alter` meets its contract, by the setters' equations. Assumes nothing.
-use Rattle.calls.specs.Words.{alterOf}
+use Rattle.calls.specs.Words.{alter_of}
 use borrow.Author.Rules.{rules}
 use Rattle.access.proofs.words.alter.Statement.{statement}
 use Rattle.access.proofs.words.alter.Tie as tie
 
-pub alter-spec : {M : Type 1} → statement M
-unfolding alterOf
-alter-spec =
+pub alter_spec : {M : Type 1} → statement M
+unfolding alter_of
+alter_spec =
     tie.close
     (tie.spec
     (λ c. search rules)

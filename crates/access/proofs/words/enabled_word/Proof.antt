@@ -4,8 +4,8 @@ use borrow.Author.Rules.{rules}
 use Rattle.access.proofs.words.enabled_word.Statement.{statement}
 use Rattle.access.proofs.words.enabled_word.Tie as tie
 
-pub enabled-word-spec : {M : Type 1} → statement M
-enabled-word-spec =
+pub enabled_word_spec : {M : Type 1} → statement M
+enabled_word_spec =
     tie.close
     (tie.spec
     (λ c κs. search rules)

@@ -4,8 +4,8 @@ use Rattle.kinds.proofs.Branch.{branches}
 use Rattle.access.proofs.words.listen_register.Statement.{statement}
 use Rattle.access.proofs.words.listen_register.Tie as tie
 
-pub listen-register-spec : {M : Type 1} → statement M
-listen-register-spec =
+pub listen_register_spec : {M : Type 1} → statement M
+listen_register_spec =
     tie.close
     (tie.spec
     (λ c. search (branches, tests))

@@ -5,8 +5,8 @@ use borrow.Author.Rules.{rules}
 use Rattle.access.proofs.words.listen_word.Statement.{statement}
 use Rattle.access.proofs.words.listen_word.Tie as tie
 
-pub listen-word-spec : {M : Type 1} → statement M
-listen-word-spec =
+pub listen_word_spec : {M : Type 1} → statement M
+listen_word_spec =
     tie.close
     (tie.spec
     (λ c κs. search rules)

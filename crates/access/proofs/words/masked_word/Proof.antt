@@ -3,8 +3,8 @@ use borrow.Author.Rules.{rules}
 use Rattle.access.proofs.words.masked_word.Statement.{statement}
 use Rattle.access.proofs.words.masked_word.Tie as tie
 
-pub masked-word-spec : {M : Type 1} → statement M
-masked-word-spec =
+pub masked_word_spec : {M : Type 1} → statement M
+masked_word_spec =
     tie.close
     (tie.spec
     (λ c. search rules)

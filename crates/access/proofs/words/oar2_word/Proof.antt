@@ -1,12 +1,12 @@
 -- `words::oar2_word` meets its contract. Assumes nothing.
-use Rattle.calls.specs.Words.{oar2Of}
+use Rattle.calls.specs.Words.{oar2_of}
 use borrow.Author.Rules.{rules}
 use Rattle.access.proofs.words.oar2_word.Statement.{statement}
 use Rattle.access.proofs.words.oar2_word.Tie as tie
 
-pub oar2-word-spec : {M : Type 1} → statement M
-unfolding oar2Of
-oar2-word-spec =
+pub oar2_word_spec : {M : Type 1} → statement M
+unfolding oar2_of
+oar2_word_spec =
     tie.close
     (tie.spec
     (λ c. search rules)

@@ -3,8 +3,8 @@ use borrow.Author.Rules.{rules}
 use Rattle.access.proofs.words.own_word.Statement.{statement}
 use Rattle.access.proofs.words.own_word.Tie as tie
 
-pub own-word-spec : {M : Type 1} → statement M
-own-word-spec =
+pub own_word_spec : {M : Type 1} → statement M
+own_word_spec =
     tie.close
     (tie.spec
     (λ c. search rules)

@@ -3,8 +3,8 @@ use borrow.Author.Rules.{rules}
 use Rattle.access.proofs.words.register_of.Statement.{statement}
 use Rattle.access.proofs.words.register_of.Tie as tie
 
-pub register-of-spec : {M : Type 1} → statement M
-register-of-spec =
+pub register_of_spec : {M : Type 1} → statement M
+register_of_spec =
     tie.close
     (tie.spec
     (λ c. search rules)

@@ -3,8 +3,8 @@ use borrow.Author.Rules.{rules}
 use Rattle.access.proofs.words.secondary_word.Statement.{statement}
 use Rattle.access.proofs.words.secondary_word.Tie as tie
 
-pub secondary-word-spec : {M : Type 1} → statement M
-secondary-word-spec =
+pub secondary_word_spec : {M : Type 1} → statement M
+secondary_word_spec =
     tie.close
     (tie.spec
     (λ c. search rules)

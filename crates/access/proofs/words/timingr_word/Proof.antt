@@ -1,13 +1,13 @@
 -- `words::timingr_word` meets its contract: each return by the tests that led there. Assumes nothing.
-use Rattle.calls.specs.Words.{timingrOf}
+use Rattle.calls.specs.Words.{timingr_of}
 use Rattle.kinds.proofs.Branch.{branches}
 use borrow.Author.Rules.{rules}
 use Rattle.access.proofs.words.timingr_word.Statement.{statement}
 use Rattle.access.proofs.words.timingr_word.Tie as tie
 
-pub timingr-word-spec : {M : Type 1} → statement M
-unfolding timingrOf
-timingr-word-spec =
+pub timingr_word_spec : {M : Type 1} → statement M
+unfolding timingr_of
+timingr_word_spec =
     tie.close
     (tie.spec
     (λ c κs. search rules)

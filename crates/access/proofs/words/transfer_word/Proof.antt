@@ -3,8 +3,8 @@ use borrow.Author.Rules.{rules}
 use Rattle.access.proofs.words.transfer_word.Statement.{statement}
 use Rattle.access.proofs.words.transfer_word.Tie as tie
 
-pub transfer-word-spec : {M : Type 1} → statement M
-transfer-word-spec =
+pub transfer_word_spec : {M : Type 1} → statement M
+transfer_word_spec =
     tie.close
     (tie.spec
     (λ c κs. search rules)

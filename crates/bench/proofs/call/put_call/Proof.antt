@@ -4,8 +4,8 @@ use Rattle.bench.proofs.Texts.{called}
 use Rattle.bench.proofs.call.put_call.Statement.{statement}
 use Rattle.bench.proofs.call.put_call.Tie as tie
 
-pub put-call-spec : {M : Type 1} → statement M
-put-call-spec =
+pub put_call_spec : {M : Type 1} → statement M
+put_call_spec =
     tie.close
     (tie.spec
     (λ c κs. search rules)

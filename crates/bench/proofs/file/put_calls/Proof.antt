@@ -3,20 +3,20 @@
 use borrow.Author.Rules.{rules}
 use mathlib.Core.Path.{◌≡◌, refl, ◌∙◌}
 use lib.ListN.{length}
-use Rattle.window.specs.Window.{laid, emitOf}
-use Rattle.bench.specs.Text.{callsText}
-use Rattle.bench.proofs.Texts.{calls-put, next-call}
+use Rattle.window.specs.Window.{laid, emit_of}
+use Rattle.bench.specs.Text.{calls_text}
+use Rattle.bench.proofs.Texts.{calls_put, next_call}
 use Rattle.bench.proofs.file.put_calls.Statement.{statement}
 use Rattle.bench.proofs.file.put_calls.Tie as tie
 
 abbrev invariant-loop : tie.invariant-loop
-invariant-loop form n rows bodies out₀ q₀ left₀ table₀ rest₀ out q left table rest = (length out ≡ length out₀) × (emitOf (callsText form left table rest) (laid q out) ≡ emitOf (callsText form n rows bodies) (laid q₀ out₀))
+invariant-loop form n rows bodies out₀ q₀ left₀ table₀ rest₀ out q left table rest = (length out ≡ length out₀) × (emit_of (calls_text form left table rest) (laid q out) ≡ emit_of (calls_text form n rows bodies) (laid q₀ out₀))
 
 abbrev decreases-loop : tie.decreases-loop
 decreases-loop form n rows bodies out₀ q₀ left₀ table₀ rest₀ out q left table rest = left
 
-pub put-calls-spec : {M : Type 1} → statement M
-put-calls-spec =
+pub put_calls_spec : {M : Type 1} → statement M
+put_calls_spec =
     tie.close
     (tie.spec
     invariant-loop
@@ -28,6 +28,6 @@ put-calls-spec =
     (λ c κs. search rules)
     (λ c. search rules)
     (λ c. search rules)
-    (λ c. let a = c.before.before.before.before.before.before.before.before.before.before.before.before.args in let i = c.before.before.before.before.before.before.before.before.loop in (c.before.before.before.before.before.put-row.auto.1.1.1.1.0 ∙ i.invariant.0, rw (c.after2.ensures, c.before.after.ensures, c.before.before.body-size.ensures) (next-call a.form a.n a.rows.now a.bodies.now _ i.left i.table.now i.rest.now _ i.invariant.1 c.before.before.before.before.before.before.before.loop-test.true _ c.before.before.before.before.before.put-row.ensures)))
+    (λ c. let a = c.before.before.before.before.before.before.before.before.before.before.before.before.args in let i = c.before.before.before.before.before.before.before.before.loop in (c.before.before.before.before.before.put-row.auto.1.1.1.1.0 ∙ i.invariant.0, rw (c.after2.ensures, c.before.after.ensures, c.before.before.body-size.ensures) (next_call a.form a.n a.rows.now a.bodies.now _ i.left i.table.now i.rest.now _ i.invariant.1 c.before.before.before.before.before.before.before.loop-test.true _ c.before.before.before.before.before.put-row.ensures)))
     (λ c. search rules)
-    (λ c. search (rules, calls-put)))
+    (λ c. search (rules, calls_put)))

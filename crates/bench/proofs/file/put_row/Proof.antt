@@ -4,8 +4,8 @@ use Rattle.bench.proofs.Texts.{rowed}
 use Rattle.bench.proofs.file.put_row.Statement.{statement}
 use Rattle.bench.proofs.file.put_row.Tie as tie
 
-pub put-row-spec : {M : Type 1} → statement M
-put-row-spec =
+pub put_row_spec : {M : Type 1} → statement M
+put_row_spec =
     tie.close
     (tie.spec
     (λ c κs. search rules)

@@ -3,8 +3,8 @@ use borrow.Author.Rules.{rules}
 use Rattle.bench.proofs.file.put_table.Statement.{statement}
 use Rattle.bench.proofs.file.put_table.Tie as tie
 
-pub put-table-spec : {M : Type 1} → statement M
-put-table-spec =
+pub put_table_spec : {M : Type 1} → statement M
+put_table_spec =
     tie.close
     (tie.spec
     (λ c. search rules)

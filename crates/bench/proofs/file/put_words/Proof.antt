@@ -1,13 +1,13 @@
 -- `file::put_words` meets its contract: each return by the test on the way. Assumes nothing.
 use borrow.Author.Rules.{rules}
-use Rattle.bench.specs.Text.{wordsText}
+use Rattle.bench.specs.Text.{words_text}
 use Rattle.bench.proofs.Texts.{either, other}
 use Rattle.bench.proofs.file.put_words.Statement.{statement}
 use Rattle.bench.proofs.file.put_words.Tie as tie
 
-pub put-words-spec : {M : Type 1} → statement M
-unfolding wordsText
-put-words-spec =
+pub put_words_spec : {M : Type 1} → statement M
+unfolding words_text
+put_words_spec =
     tie.close
     (tie.spec
     (λ c κs. search rules)

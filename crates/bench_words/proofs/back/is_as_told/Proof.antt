@@ -11,8 +11,8 @@ invariant-loop words count rest₀ i₀ rest i = Unit {0}
 abbrev decreases-loop : tie.decreases-loop
 decreases-loop words count rest₀ i₀ rest i = count - i
 
-pub is-as-told-spec : {M : Type 1} → statement M
-is-as-told-spec =
+pub is_as_told_spec : {M : Type 1} → statement M
+is_as_told_spec =
     tie.close
     (tie.spec
     invariant-loop

@@ -10,8 +10,8 @@ invariant-loop words count rest₀ i₀ rest i = Unit {0}
 abbrev decreases-loop : tie.decreases-loop
 decreases-loop words count rest₀ i₀ rest i = count - i
 
-pub show-bodies-spec : {M : Type 1} → statement M
-show-bodies-spec =
+pub show_bodies_spec : {M : Type 1} → statement M
+show_bodies_spec =
     tie.close
     (tie.spec
     invariant-loop

@@ -10,8 +10,8 @@ invariant-loop words count i₀ i = Unit {0}
 abbrev decreases-loop : tie.decreases-loop
 decreases-loop words count i₀ i = count - i
 
-pub show-rows-spec : {M : Type 1} → statement M
-show-rows-spec =
+pub show_rows_spec : {M : Type 1} → statement M
+show_rows_spec =
     tie.close
     (tie.spec
     invariant-loop

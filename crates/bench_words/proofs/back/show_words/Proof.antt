@@ -12,8 +12,8 @@ invariant-loop words hex i₀ t4 i-end i = i ≤ length words
 abbrev decreases-loop : tie.decreases-loop
 decreases-loop words hex i₀ t4 i-end i = length words - i
 
-pub show-words-spec : {M : Type 1} → statement M
-show-words-spec =
+pub show_words_spec : {M : Type 1} → statement M
+show_words_spec =
     tie.close
     (tie.spec
     invariant-loop

@@ -10,8 +10,8 @@ invariant-loop content line writes rest₀ counter₀ end rest counter = Unit {0
 abbrev decreases-loop : tie.decreases-loop
 decreases-loop content line writes rest₀ counter₀ end rest counter = end - counter
 
-pub take-line-spec : {M : Type 1} → statement M
-take-line-spec =
+pub take_line_spec : {M : Type 1} → statement M
+take_line_spec =
     tie.close
     (tie.spec
     invariant-loop

@@ -3,8 +3,8 @@ use borrow.Author.Rules.{rules}
 use Rattle.benchfile.proofs.buffer.after_list.Statement.{statement}
 use Rattle.benchfile.proofs.buffer.after_list.Tie as tie
 
-pub after-list-spec : {M : Type 1} → statement M
-after-list-spec =
+pub after_list_spec : {M : Type 1} → statement M
+after_list_spec =
     tie.close
     (tie.spec
     (λ c κs. search rules)

@@ -4,8 +4,8 @@ use Rattle.window.proofs.Laid.{windowed}
 use Rattle.benchfile.proofs.buffer.lay.Statement.{statement}
 use Rattle.benchfile.proofs.buffer.lay.Tie as tie
 
-pub lay-spec : {M : Type 1} → statement M
-lay-spec =
+pub lay_spec : {M : Type 1} → statement M
+lay_spec =
     tie.close
     (tie.spec
     (λ c κs. search rules)

@@ -4,8 +4,8 @@ use Rattle.benchfile.proofs.Bytes.{whole-put}
 use Rattle.benchfile.proofs.buffer.put_buffer.Statement.{statement}
 use Rattle.benchfile.proofs.buffer.put_buffer.Tie as tie
 
-pub put-buffer-spec : {M : Type 1} → statement M
-put-buffer-spec =
+pub put_buffer_spec : {M : Type 1} → statement M
+put_buffer_spec =
     tie.close
     (tie.spec
     (λ c κs. search rules)

@@ -4,7 +4,7 @@ use Prim.Native.Nat.{◌≤◌, ◌-◌}
 use mathlib.Core.Path.{◌≡◌}
 use lib.ListN.{length, drop}
 use borrow.Author.Rules.{rules}
-use Rattle.window.specs.Window.{laid, emitOf}
+use Rattle.window.specs.Window.{laid, emit_of}
 use Rattle.benchfile.specs.Calls.{low_bytes}
 use Rattle.benchfile.proofs.Bytes.{words-put}
 use Rattle.benchfile.proofs.buffer.put_bytes.Statement.{statement}
@@ -13,13 +13,13 @@ use Rattle.benchfile.proofs.buffer.put_bytes.Tie as tie
 abbrev invariant-loop : tie.invariant-loop
 invariant-loop words out₀ q₀ i₀ i-end out q i =
     (i ≤ length words) × (length out ≡ length out₀)
-    × (emitOf (low_bytes (drop i words)) (laid q out) ≡ emitOf (low_bytes words) (laid q₀ out₀))
+    × (emit_of (low_bytes (drop i words)) (laid q out) ≡ emit_of (low_bytes words) (laid q₀ out₀))
 
 abbrev decreases-loop : tie.decreases-loop
 decreases-loop words out₀ q₀ i₀ i-end out q i = length words - i
 
-pub put-bytes-spec : {M : Type 1} → statement M
-put-bytes-spec =
+pub put_bytes_spec : {M : Type 1} → statement M
+put_bytes_spec =
     tie.close
     (tie.spec
     invariant-loop

@@ -4,8 +4,8 @@ use Rattle.benchfile.proofs.Bytes.{operation-put}
 use Rattle.benchfile.proofs.buffer.put_operation.Statement.{statement}
 use Rattle.benchfile.proofs.buffer.put_operation.Tie as tie
 
-pub put-operation-spec : {M : Type 1} → statement M
-put-operation-spec =
+pub put_operation_spec : {M : Type 1} → statement M
+put_operation_spec =
     tie.close
     (tie.spec
     (λ c κs. search rules)

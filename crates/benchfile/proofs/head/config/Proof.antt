@@ -4,8 +4,8 @@ use borrow.Author.Tests.{eq-eqb, ne_eqb}
 use Rattle.benchfile.proofs.head.config.Statement.{statement}
 use Rattle.benchfile.proofs.head.config.Tie as tie
 
-pub config-spec : {M : Type 1} → statement M
-config-spec =
+pub config_spec : {M : Type 1} → statement M
+config_spec =
     tie.close
     (tie.spec
     (λ c κs. search rules)

@@ -4,5 +4,5 @@ use Rattle.fields.proofs.Tests.{tests}
 use Rattle.benchfile.proofs.head.config_from.Statement.{statement}
 use Rattle.benchfile.proofs.head.config_from.Tie as tie
 
-pub config-from-spec : {M : Type 1} → statement M
-config-from-spec = tie.close (tie.spec (λ c. search (rules, tests)) (λ c. search (rules, tests)))
+pub config_from_spec : {M : Type 1} → statement M
+config_from_spec = tie.close (tie.spec (λ c. search (rules, tests)) (λ c. search (rules, tests)))

@@ -1,12 +1,12 @@
 -- `benchfile::head::describe` meets its contract. Assumes nothing.
 use borrow.Author.Rules.{rules}
-use Rattle.benchfile.specs.Calls.{headDescription}
+use Rattle.benchfile.specs.Calls.{head_description}
 use Rattle.benchfile.proofs.head.describe.Statement.{statement}
 use Rattle.benchfile.proofs.head.describe.Tie as tie
 
-pub describe-spec : {M : Type 1} → statement M
-unfolding headDescription
-describe-spec =
+pub describe_spec : {M : Type 1} → statement M
+unfolding head_description
+describe_spec =
     tie.close
     (tie.spec
     (λ c κs. search rules)

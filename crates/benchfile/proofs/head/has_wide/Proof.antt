@@ -4,18 +4,18 @@ use mathlib.Core.Path.{◌≡◌}
 use lib.ListN.{length, drop}
 use borrow.Author.Rules.{rules}
 use Rattle.benchfile.proofs.Lists.{wides}
-use Rattle.benchfile.specs.Calls.{anyWide}
+use Rattle.benchfile.specs.Calls.{any_wide}
 use Rattle.benchfile.proofs.head.has_wide.Statement.{statement}
 use Rattle.benchfile.proofs.head.has_wide.Tie as tie
 
 abbrev invariant-loop : tie.invariant-loop
-invariant-loop words i₀ i-end i = (i ≤ length words) × (anyWide words ≡ anyWide (drop i words))
+invariant-loop words i₀ i-end i = (i ≤ length words) × (any_wide words ≡ any_wide (drop i words))
 
 abbrev decreases-loop : tie.decreases-loop
 decreases-loop words i₀ i-end i = length words - i
 
-pub has-wide-spec : {M : Type 1} → statement M
-has-wide-spec =
+pub has_wide_spec : {M : Type 1} → statement M
+has_wide_spec =
     tie.close
     (tie.spec
     invariant-loop

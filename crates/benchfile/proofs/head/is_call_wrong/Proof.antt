@@ -1,12 +1,12 @@
 -- `benchfile::head::is_call_wrong` meets its contract. Assumes nothing.
 use borrow.Author.Rules.{rules}
-use Rattle.benchfile.specs.Calls.{callWrong}
+use Rattle.benchfile.specs.Calls.{call_wrong}
 use Rattle.benchfile.proofs.head.is_call_wrong.Statement.{statement}
 use Rattle.benchfile.proofs.head.is_call_wrong.Tie as tie
 
-pub is-call-wrong-spec : {M : Type 1} → statement M
-unfolding callWrong
-is-call-wrong-spec =
+pub is_call_wrong_spec : {M : Type 1} → statement M
+unfolding call_wrong
+is_call_wrong_spec =
     tie.close
     (tie.spec
     (λ c κs. search rules)

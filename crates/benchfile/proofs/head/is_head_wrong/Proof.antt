@@ -1,13 +1,13 @@
 -- `benchfile::head::is_head_wrong` meets its contract, by the arm of the match. Assumes nothing.
 use borrow.Author.Rules.{rules}
-use Rattle.benchfile.specs.Calls.{headWrong}
+use Rattle.benchfile.specs.Calls.{head_wrong}
 use Rattle.fields.proofs.Tests.{tests}
 use Rattle.benchfile.proofs.head.is_head_wrong.Statement.{statement}
 use Rattle.benchfile.proofs.head.is_head_wrong.Tie as tie
 
-pub is-head-wrong-spec : {M : Type 1} → statement M
-unfolding headWrong
-is-head-wrong-spec =
+pub is_head_wrong_spec : {M : Type 1} → statement M
+unfolding head_wrong
+is_head_wrong_spec =
     tie.close
     (tie.spec
     (λ c κs. search rules)

@@ -1,12 +1,12 @@
 -- `benchfile::head::is_list_wrong` meets its contract. Assumes nothing.
 use borrow.Author.Rules.{rules}
-use Rattle.benchfile.specs.Calls.{listMisfit}
+use Rattle.benchfile.specs.Calls.{list_misfit}
 use Rattle.benchfile.proofs.head.is_list_wrong.Statement.{statement}
 use Rattle.benchfile.proofs.head.is_list_wrong.Tie as tie
 
-pub is-list-wrong-spec : {M : Type 1} → statement M
-unfolding listMisfit
-is-list-wrong-spec =
+pub is_list_wrong_spec : {M : Type 1} → statement M
+unfolding list_misfit
+is_list_wrong_spec =
     tie.close
     (tie.spec
     (λ c κs. search rules)

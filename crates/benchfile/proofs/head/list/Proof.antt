@@ -3,8 +3,8 @@ use borrow.Author.Rules.{rules}
 use Rattle.benchfile.proofs.head.list.Statement.{statement}
 use Rattle.benchfile.proofs.head.list.Tie as tie
 
-pub list-spec : {M : Type 1} → statement M
-list-spec =
+pub list_spec : {M : Type 1} → statement M
+list_spec =
     tie.close
     (tie.spec
     (λ c κs. search rules)

@@ -5,9 +5,9 @@ use Rattle.fields.proofs.Tests.{tests}
 use Rattle.benchfile.proofs.head.plain.Statement.{statement}
 use Rattle.benchfile.proofs.head.plain.Tie as tie
 
-pub plain-spec : {M : Type 1} → statement M
+pub plain_spec : {M : Type 1} → statement M
 unfolding plain
-plain-spec =
+plain_spec =
     tie.close
     (tie.spec
     (λ c. search rules)

@@ -4,8 +4,8 @@ use Rattle.benchfile.proofs.Branch.{branches}
 use Rattle.benchfile.proofs.head.write_size.Statement.{statement}
 use Rattle.benchfile.proofs.head.write_size.Tie as tie
 
-pub write-size-spec : {M : Type 1} → statement M
-write-size-spec =
+pub write_size_spec : {M : Type 1} → statement M
+write_size_spec =
     tie.close
     (tie.spec
     (λ c κs. search rules)

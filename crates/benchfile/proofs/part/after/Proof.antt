@@ -4,8 +4,8 @@ use Rattle.benchfile.proofs.Parts.{parts}
 use Rattle.benchfile.proofs.part.after.Statement.{statement}
 use Rattle.benchfile.proofs.part.after.Tie as tie
 
-pub after-spec : {M : Type 1} → statement M
-after-spec =
+pub after_spec : {M : Type 1} → statement M
+after_spec =
     tie.close
     (tie.spec
     (λ c. search rules)

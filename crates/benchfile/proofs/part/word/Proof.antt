@@ -4,8 +4,8 @@ use Rattle.benchfile.proofs.Parts.{parts}
 use Rattle.benchfile.proofs.part.word.Statement.{statement}
 use Rattle.benchfile.proofs.part.word.Tie as tie
 
-pub word-spec : {M : Type 1} → statement M
-word-spec =
+pub word_spec : {M : Type 1} → statement M
+word_spec =
     tie.close
     (tie.spec
     (λ c. search rules)

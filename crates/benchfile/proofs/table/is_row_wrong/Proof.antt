@@ -1,12 +1,12 @@
 -- `benchfile::table::is_row_wrong` meets its contract. Assumes nothing.
 use borrow.Author.Rules.{rules}
-use Rattle.benchfile.specs.File.{rowWrong}
+use Rattle.benchfile.specs.File.{row_wrong}
 use Rattle.benchfile.proofs.table.is_row_wrong.Statement.{statement}
 use Rattle.benchfile.proofs.table.is_row_wrong.Tie as tie
 
-pub is-row-wrong-spec : {M : Type 1} → statement M
-unfolding rowWrong
-is-row-wrong-spec =
+pub is_row_wrong_spec : {M : Type 1} → statement M
+unfolding row_wrong
+is_row_wrong_spec =
     tie.close
     (tie.spec
     (λ c κs. search rules)

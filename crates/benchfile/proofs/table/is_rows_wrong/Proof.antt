@@ -1,19 +1,19 @@
 -- `benchfile::table::is_rows_wrong` meets its contract. The invariant: the rows that are left decide. Assumes nothing.
 use mathlib.Core.Path.{◌≡◌}
 use borrow.Author.Rules.{rules}
-use Rattle.benchfile.specs.File.{rowsWrong}
+use Rattle.benchfile.specs.File.{rows_wrong}
 use Rattle.benchfile.proofs.Rows.{turns}
 use Rattle.benchfile.proofs.table.is_rows_wrong.Statement.{statement}
 use Rattle.benchfile.proofs.table.is_rows_wrong.Tie as tie
 
 abbrev invariant-loop : tie.invariant-loop
-invariant-loop n rows bodies left₀ table₀ rest₀ left table rest = rowsWrong n rows bodies ≡ rowsWrong left table rest
+invariant-loop n rows bodies left₀ table₀ rest₀ left table rest = rows_wrong n rows bodies ≡ rows_wrong left table rest
 
 abbrev decreases-loop : tie.decreases-loop
 decreases-loop n rows bodies left₀ table₀ rest₀ left table rest = left
 
-pub is-rows-wrong-spec : {M : Type 1} → statement M
-is-rows-wrong-spec =
+pub is_rows_wrong_spec : {M : Type 1} → statement M
+is_rows_wrong_spec =
     tie.close
     (tie.spec
     invariant-loop

@@ -3,8 +3,8 @@ use Rattle.boundary.proofs.call.access_answer.Statement.{statement}
 use Rattle.boundary.proofs.call.access_answer.Tie as tie
 use borrow.Author.Rules.{rules}
 
-pub access-answer-spec : {M : Type 1} → statement M
-access-answer-spec =
+pub access_answer_spec : {M : Type 1} → statement M
+access_answer_spec =
     tie.close
     (tie.spec
     (λ c. search rules)

@@ -7,13 +7,13 @@ use mathlib.Core.Path.{ap, ◌∙◌}
 use lib.ListN.{length}
 use Rattle.calls.specs.declared.SavedCall.{SavedCall}
 use Rattle.words.specs.Words.{words_in}
-use Rattle.advance_bytes.specs.Pieces.{inBytes}
-use Rattle.calls.specs.Joined.{reachedBy}
+use Rattle.advance_bytes.specs.Pieces.{in_bytes}
+use Rattle.calls.specs.Joined.{reached_by}
 use Rattle.calls.specs.Run.{run_of}
 use Rattle.boundary.proofs.Answers.{advances}
 
-pub advance-spec : {M : Type 1} → statement M
-advance-spec =
+pub advance_spec : {M : Type 1} → statement M
+advance_spec =
     tie.close
     (tie.spec
     (λ c κs. search rules)
@@ -30,5 +30,5 @@ advance-spec =
     let read = ran.before.before.before in
     let a = read.before.before.before.before.before.before.before.args in
     advances a.d a.ops.now a.saved.now a.buffer.now a.answers.now a.log.now ran.run.result _ _
-    (ran.run.ensures ∙ ap (λ (s : SavedCall). reachedBy inBytes (run_of a.d a.ops.now (length a.log.now / 8) s a.buffer.now (words_in a.answers.now)) a.log.now) read.read.ensures)
+    (ran.run.ensures ∙ ap (λ (s : SavedCall). reached_by in_bytes (run_of a.d a.ops.now (length a.log.now / 8) s a.buffer.now (words_in a.answers.now)) a.log.now) read.read.ensures)
     _ _ _ c.number.ensures c.before.answer-for.ensures kept.keep.ensures))

@@ -3,8 +3,8 @@ use borrow.Author.Rules.{rules}
 use Rattle.boundary.proofs.call.answer_for.Statement.{statement}
 use Rattle.boundary.proofs.call.answer_for.Tie as tie
 
-pub answer-for-spec : {M : Type 1} → statement M
-answer-for-spec =
+pub answer_for_spec : {M : Type 1} → statement M
+answer_for_spec =
     tie.close
     (tie.spec
     (λ c κs. search rules)

@@ -4,8 +4,8 @@ use Rattle.boundary.proofs.call.begin.Tie as tie
 use borrow.Author.Rules.{rules}
 use Rattle.boundary.proofs.Answers.{begins}
 
-pub begin-spec : {M : Type 1} → statement M
-begin-spec =
+pub begin_spec : {M : Type 1} → statement M
+begin_spec =
     tie.close
     (tie.spec
     (λ c κs. search rules)

@@ -4,8 +4,8 @@ use Rattle.kinds.proofs.Branch.{told, yes, no}
 use Rattle.boundary.proofs.call.configuration.Statement.{statement}
 use Rattle.boundary.proofs.call.configuration.Tie as tie
 
-pub configuration-spec : {M : Type 1} → statement M
-configuration-spec =
+pub configuration_spec : {M : Type 1} → statement M
+configuration_spec =
     tie.close
     (tie.spec
     (λ c κs. search rules)

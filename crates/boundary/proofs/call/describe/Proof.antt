@@ -3,8 +3,8 @@ use borrow.Author.Rules.{rules}
 use Rattle.boundary.proofs.call.describe.Statement.{statement}
 use Rattle.boundary.proofs.call.describe.Tie as tie
 
-pub describe-spec : {M : Type 1} → statement M
-describe-spec =
+pub describe_spec : {M : Type 1} → statement M
+describe_spec =
     tie.close
     (tie.spec
     (λ c κs. search rules)

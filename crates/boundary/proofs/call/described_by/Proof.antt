@@ -3,8 +3,8 @@ use borrow.Author.Rules.{rules}
 use Rattle.boundary.proofs.call.described_by.Statement.{statement}
 use Rattle.boundary.proofs.call.described_by.Tie as tie
 
-pub described-by-spec : {M : Type 1} → statement M
-described-by-spec =
+pub described_by_spec : {M : Type 1} → statement M
+described_by_spec =
     tie.close
     (tie.spec
     (λ c κs. search rules)

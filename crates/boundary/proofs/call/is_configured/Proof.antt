@@ -4,8 +4,8 @@ use Rattle.fields.proofs.Tests.{tests}
 use Rattle.boundary.proofs.call.is_configured.Statement.{statement}
 use Rattle.boundary.proofs.call.is_configured.Tie as tie
 
-pub is-configured-spec : {M : Type 1} → statement M
-is-configured-spec =
+pub is_configured_spec : {M : Type 1} → statement M
+is_configured_spec =
     tie.close
     (tie.spec
     (λ c. rw c.match.keys1)

@@ -3,8 +3,8 @@ use Rattle.boundary.proofs.call.next.Statement.{statement}
 use Rattle.boundary.proofs.call.next.Tie as tie
 use borrow.Author.Rules.{rules}
 
-pub next-spec : {M : Type 1} → statement M
-next-spec =
+pub next_spec : {M : Type 1} → statement M
+next_spec =
     tie.close
     (tie.spec
     (λ c κs. search rules)

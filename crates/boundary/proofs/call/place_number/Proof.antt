@@ -4,8 +4,8 @@ use Rattle.boundary.proofs.call.place_number.Tie as tie
 use borrow.Author.Rules.{rules}
 use Rattle.fields.proofs.Tests.{tests}
 
-pub place-number-spec : {M : Type 1} → statement M
-place-number-spec =
+pub place_number_spec : {M : Type 1} → statement M
+place_number_spec =
     tie.close
     (tie.spec
     (λ c. search (rules, tests))

@@ -3,8 +3,8 @@ use Rattle.boundary.proofs.call.verdict_number.Statement.{statement}
 use Rattle.boundary.proofs.call.verdict_number.Tie as tie
 use borrow.Author.Rules.{rules}
 
-pub verdict-number-spec : {M : Type 1} → statement M
-verdict-number-spec =
+pub verdict_number_spec : {M : Type 1} → statement M
+verdict_number_spec =
     tie.close
     (tie.spec
     (λ c. search rules)

@@ -3,8 +3,8 @@ use borrow.Author.Rules.{rules}
 use Rattle.driver.proofs.accept.at_byte.Statement.{statement}
 use Rattle.driver.proofs.accept.at_byte.Tie as tie
 
-pub at-byte-spec : {M : Type 1} → statement M
-at-byte-spec =
+pub at_byte_spec : {M : Type 1} → statement M
+at_byte_spec =
     tie.close
     (tie.spec
     (λ c. search rules)
@@ -13,4 +13,4 @@ at-byte-spec =
     (λ c κs. search rules)
     (λ c.
     let m = c.before.before in
-    rw (m.before.before.is_byte_lem.ensures, m.before.byte-there.ensures, m.is-manual-write.ensures)))
+    rw (m.before.before.is_byte_lem.ensures, m.before.byte_there_holds.ensures, m.is-manual-write.ensures)))

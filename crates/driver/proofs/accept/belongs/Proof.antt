@@ -5,8 +5,8 @@ use borrow.Author.Rules.{rules}
 use Rattle.driver.proofs.accept.belongs.Statement.{statement}
 use Rattle.driver.proofs.accept.belongs.Tie as tie
 
-pub belongs-spec : {M : Type 1} → statement M
-belongs-spec =
+pub belongs_spec : {M : Type 1} → statement M
+belongs_spec =
     tie.close
     (tie.spec
     (λ c κs. search rules)

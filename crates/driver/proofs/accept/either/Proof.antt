@@ -3,8 +3,8 @@ use borrow.Author.Rules.{rules}
 use Rattle.driver.proofs.accept.either.Statement.{statement}
 use Rattle.driver.proofs.accept.either.Tie as tie
 
-pub either-spec : {M : Type 1} → statement M
-either-spec =
+pub either_spec : {M : Type 1} → statement M
+either_spec =
     tie.close
     (tie.spec
     (λ c κs. search rules)

@@ -3,8 +3,8 @@ use borrow.Author.Rules.{rules}
 use Rattle.driver.proofs.accept.has_blocks.Statement.{statement}
 use Rattle.driver.proofs.accept.has_blocks.Tie as tie
 
-pub has-blocks-spec : {M : Type 1} → statement M
-has-blocks-spec =
+pub has_blocks_spec : {M : Type 1} → statement M
+has_blocks_spec =
     tie.close
     (tie.spec
     (λ c κs. search rules)

@@ -3,8 +3,8 @@ use borrow.Author.Rules.{rules}
 use Rattle.driver.proofs.accept.has_errors.Statement.{statement}
 use Rattle.driver.proofs.accept.has_errors.Tie as tie
 
-pub has-errors-spec : {M : Type 1} → statement M
-has-errors-spec =
+pub has_errors_spec : {M : Type 1} → statement M
+has_errors_spec =
     tie.close
     (tie.spec
     (λ c κs. search rules)

@@ -3,8 +3,8 @@ use borrow.Author.Rules.{rules}
 use Rattle.driver.proofs.accept.has_manual_events.Statement.{statement}
 use Rattle.driver.proofs.accept.has_manual_events.Tie as tie
 
-pub has-manual-events-spec : {M : Type 1} → statement M
-has-manual-events-spec =
+pub has_manual_events_spec : {M : Type 1} → statement M
+has_manual_events_spec =
     tie.close
     (tie.spec
     (λ c κs. search rules)

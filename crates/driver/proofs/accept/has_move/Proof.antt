@@ -3,8 +3,8 @@ use borrow.Author.Rules.{rules}
 use Rattle.driver.proofs.accept.has_move.Statement.{statement}
 use Rattle.driver.proofs.accept.has_move.Tie as tie
 
-pub has-move-spec : {M : Type 1} → statement M
-has-move-spec =
+pub has_move_spec : {M : Type 1} → statement M
+has_move_spec =
     tie.close
     (tie.spec
     (λ c κs. search rules)

@@ -3,8 +3,8 @@ use borrow.Author.Rules.{rules}
 use Rattle.driver.proofs.accept.has_nack.Statement.{statement}
 use Rattle.driver.proofs.accept.has_nack.Tie as tie
 
-pub has-nack-spec : {M : Type 1} → statement M
-has-nack-spec =
+pub has_nack_spec : {M : Type 1} → statement M
+has_nack_spec =
     tie.close
     (tie.spec
     (λ c κs. search rules)

@@ -3,8 +3,8 @@ use borrow.Author.Rules.{rules}
 use Rattle.driver.proofs.accept.has_nack_set.Statement.{statement}
 use Rattle.driver.proofs.accept.has_nack_set.Tie as tie
 
-pub has-nack-set-spec : {M : Type 1} → statement M
-has-nack-set-spec =
+pub has_nack_set_spec : {M : Type 1} → statement M
+has_nack_set_spec =
     tie.close
     (tie.spec
     (λ c κs. search rules)

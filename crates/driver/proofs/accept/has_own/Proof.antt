@@ -3,8 +3,8 @@ use borrow.Author.Rules.{rules}
 use Rattle.driver.proofs.accept.has_own.Statement.{statement}
 use Rattle.driver.proofs.accept.has_own.Tie as tie
 
-pub has-own-spec : {M : Type 1} → statement M
-has-own-spec =
+pub has_own_spec : {M : Type 1} → statement M
+has_own_spec =
     tie.close
     (tie.spec
     (λ c κs. search rules)

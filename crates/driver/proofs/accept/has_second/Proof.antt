@@ -3,8 +3,8 @@ use borrow.Author.Rules.{rules}
 use Rattle.driver.proofs.accept.has_second.Statement.{statement}
 use Rattle.driver.proofs.accept.has_second.Tie as tie
 
-pub has-second-spec : {M : Type 1} → statement M
-has-second-spec =
+pub has_second_spec : {M : Type 1} → statement M
+has_second_spec =
     tie.close
     (tie.spec
     (λ c κs. search rules)

@@ -3,8 +3,8 @@ use borrow.Author.Rules.{rules}
 use Rattle.driver.proofs.accept.has_starts.Statement.{statement}
 use Rattle.driver.proofs.accept.has_starts.Tie as tie
 
-pub has-starts-spec : {M : Type 1} → statement M
-has-starts-spec =
+pub has_starts_spec : {M : Type 1} → statement M
+has_starts_spec =
     tie.close
     (tie.spec
     (λ c κs. search rules)

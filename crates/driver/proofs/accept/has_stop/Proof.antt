@@ -3,8 +3,8 @@ use borrow.Author.Rules.{rules}
 use Rattle.driver.proofs.accept.has_stop.Statement.{statement}
 use Rattle.driver.proofs.accept.has_stop.Tie as tie
 
-pub has-stop-spec : {M : Type 1} → statement M
-has-stop-spec =
+pub has_stop_spec : {M : Type 1} → statement M
+has_stop_spec =
     tie.close
     (tie.spec
     (λ c κs. search rules)

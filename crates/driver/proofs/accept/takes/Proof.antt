@@ -1,12 +1,12 @@
 -- `accept::takes` meets its contract: each step by its group. Assumes nothing.
-use Rattle.calls.specs.Refusals.{groupTaken}
+use Rattle.calls.specs.Refusals.{group_taken}
 use borrow.Author.Rules.{rules}
 use Rattle.driver.proofs.accept.takes.Statement.{statement}
 use Rattle.driver.proofs.accept.takes.Tie as tie
 
-pub takes-spec : {M : Type 1} → statement M
-unfolding groupTaken
-takes-spec =
+pub takes_spec : {M : Type 1} → statement M
+unfolding group_taken
+takes_spec =
     tie.close
     (tie.spec
     (λ c. search rules)

@@ -1,12 +1,12 @@
 -- `accept::takes_modify` meets its contract: each step by its group. Assumes nothing.
-use Rattle.calls.specs.Refusals.{groupTaken}
+use Rattle.calls.specs.Refusals.{group_taken}
 use borrow.Author.Rules.{rules}
 use Rattle.driver.proofs.accept.takes_modify.Statement.{statement}
 use Rattle.driver.proofs.accept.takes_modify.Tie as tie
 
-pub takes-modify-spec : {M : Type 1} → statement M
-unfolding groupTaken
-takes-modify-spec =
+pub takes_modify_spec : {M : Type 1} → statement M
+unfolding group_taken
+takes_modify_spec =
     tie.close
     (tie.spec
     (λ c. search rules)

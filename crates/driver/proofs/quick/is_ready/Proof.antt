@@ -3,8 +3,8 @@ use borrow.Author.Rules.{rules}
 use Rattle.driver.proofs.quick.is_ready.Statement.{statement}
 use Rattle.driver.proofs.quick.is_ready.Tie as tie
 
-pub is-ready-spec : {M : Type 1} → statement M
-is-ready-spec =
+pub is_ready_spec : {M : Type 1} → statement M
+is_ready_spec =
     tie.close
     (tie.spec
     (λ c κs. search rules)

@@ -5,8 +5,8 @@ use borrow.Author.Rules.{rules}
 use Rattle.driver.proofs.run.note.Statement.{statement}
 use Rattle.driver.proofs.run.note.Tie as tie
 
-pub note-spec : {M : Type 1} → statement M
-note-spec =
+pub note_spec : {M : Type 1} → statement M
+note_spec =
     tie.close
     (tie.spec
     (λ c. search rules)

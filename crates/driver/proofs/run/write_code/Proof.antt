@@ -19,8 +19,8 @@ small Icr = omega arith
 small Rxdr = omega arith
 small Txdr = omega arith
 
-pub write-code-spec : {M : Type 1} → statement M
-write-code-spec =
+pub write_code_spec : {M : Type 1} → statement M
+write_code_spec =
     tie.close
     (tie.spec
     (λ c κs. search rules)

@@ -1,25 +1,25 @@
 -- `view::cursor_at` meets its contract. Assumes nothing.
 use native.Mathlib.Omega.{arith}
 use Rattle.kinds.proofs.Branch.{told}
-use Rattle.driver.proofs.Pieces.{few-operations, small-total, cursor-is, transfer-cursor}
-use Rattle.driver.proofs.Positions.{position_at, position-operation}
+use Rattle.driver.proofs.Pieces.{few_operations, small_total, cursor-is, transfer_cursor}
+use Rattle.driver.proofs.Positions.{position_at, position_operation}
 use borrow.Author.Rules.{rules}
 use Rattle.driver.proofs.view.cursor_at.Statement.{statement}
 use Rattle.driver.proofs.view.cursor_at.Tie as tie
 
-pub cursor-at-spec : {M : Type 1} → statement M
-cursor-at-spec =
+pub cursor_at_spec : {M : Type 1} → statement M
+cursor_at_spec =
     tie.close
     (tie.spec
     (λ c κs. search rules)
     (λ c κs.
     let start = c.before.before.before in
-    (small-total _ _ _ start.requires.0 (told c.before.is-transaction.ensures c.if1.true), start.requires.1))
+    (small_total _ _ _ start.requires.0 (told c.before.is-transaction.ensures c.if1.true), start.requires.1))
     (λ c κs.
     let start = c.before.before.before.before in
     rw c.position_at.ensures (
-      few-operations _ _ _ start.requires.0 (told c.before.before.is-transaction.ensures c.before.if1.true),
-      omega (arith, start.requires.1, position-operation start.args.ops.now start.args.i),
+      few_operations _ _ _ start.requires.0 (told c.before.before.is-transaction.ensures c.before.if1.true),
+      omega (arith, start.requires.1, position_operation start.args.ops.now start.args.i),
       position_at start.args.ops.now start.args.i,
     ))
     (λ c.
@@ -27,4 +27,4 @@ cursor-at-spec =
     rw (c.list-cursor.ensures, c.before.position_at.ensures)
     (cursor-is start.args.c start.args.ops.now start.args.n (told c.before.before.before.is-transaction.ensures c.before.before.if1.true) start.args.i))
     (λ c κs. search rules)
-    (λ c. transfer-cursor _ _ _ (told c.before.before.is-transaction.ensures c.before.if1.false) _ _ c.transfer-view.ensures))
+    (λ c. transfer_cursor _ _ _ (told c.before.before.is-transaction.ensures c.before.if1.false) _ _ c.transfer-view.ensures))

@@ -1,15 +1,15 @@
 -- `view::has_pieces` meets its contract. Assumes nothing.
 use borrow.Author.Rules.{rules}
 use Rattle.kinds.proofs.Branch.{told}
-use Rattle.driver.proofs.Pieces.{of-transfer, nonempty-list}
+use Rattle.driver.proofs.Pieces.{of_transfer, nonempty_list}
 use Rattle.driver.proofs.view.has_pieces.Statement.{statement}
 use Rattle.driver.proofs.view.has_pieces.Tie as tie
 
-pub has-pieces-spec : {M : Type 1} → statement M
-has-pieces-spec =
+pub has_pieces_spec : {M : Type 1} → statement M
+has_pieces_spec =
     tie.close
     (tie.spec
     (λ c κs. search rules)
-    (λ c. nonempty-list _ _ _ (told c.before.is-transaction.ensures c.if1.true))
+    (λ c. nonempty_list _ _ _ (told c.before.is-transaction.ensures c.if1.true))
     (λ c κs. search rules)
-    (λ c. rw (of-transfer _ _ _ (told c.before.before.is-transaction.ensures c.before.if1.false), c.transfer-count.ensures)))
+    (λ c. rw (of_transfer _ _ _ (told c.before.before.is-transaction.ensures c.before.if1.false), c.transfer-count.ensures)))

@@ -1,19 +1,19 @@
 -- `view::is_there` meets its contract. Assumes nothing.
 use Rattle.kinds.proofs.Branch.{told}
-use Rattle.driver.proofs.Pieces.{of-transfer, first-there, list-there}
+use Rattle.driver.proofs.Pieces.{of_transfer, first_there, list_there}
 use borrow.Author.Rules.{rules}
 use Rattle.driver.proofs.view.is_there.Statement.{statement}
 use Rattle.driver.proofs.view.is_there.Tie as tie
 
-pub is-there-spec : {M : Type 1} → statement M
-is-there-spec =
+pub is_there_spec : {M : Type 1} → statement M
+is_there_spec =
     tie.close
     (tie.spec
     (λ c κs. search rules)
     (λ c.
     let a = c.before.before.before.args in
-    list-there a.c a.ops.now a.n a.i a.k (told c.before.is-transaction.ensures c.if1.true) c.before.before.before.requires.1)
+    list_there a.c a.ops.now a.n a.i a.k (told c.before.is-transaction.ensures c.if1.true) c.before.before.before.requires.1)
     (λ c κs. search rules)
     (λ c.
     let a = c.before.before.before.before.args in
-    rw (of-transfer _ _ _ (told c.before.before.is-transaction.ensures c.before.if1.false), c.transfer-count.ensures) (first-there a.i _)))
+    rw (of_transfer _ _ _ (told c.before.before.is-transaction.ensures c.before.if1.false), c.transfer-count.ensures) (first_there a.i _)))

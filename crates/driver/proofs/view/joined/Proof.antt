@@ -6,8 +6,8 @@ use borrow.Author.Rules.{rules}
 use Rattle.driver.proofs.view.joined.Statement.{statement}
 use Rattle.driver.proofs.view.joined.Tie as tie
 
-pub joined-spec : {M : Type 1} → statement M
-joined-spec =
+pub joined_spec : {M : Type 1} → statement M
+joined_spec =
     tie.close
     (tie.spec
     (λ c. search (branches, tests))

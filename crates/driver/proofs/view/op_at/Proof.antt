@@ -5,8 +5,8 @@ use borrow.Author.Rules.{rules}
 use Rattle.driver.proofs.view.op_at.Statement.{statement}
 use Rattle.driver.proofs.view.op_at.Tie as tie
 
-pub op-at-spec : {M : Type 1} → statement M
-op-at-spec =
+pub op_at_spec : {M : Type 1} → statement M
+op_at_spec =
     tie.close
     (tie.spec
     (λ c. search rules)

@@ -3,8 +3,8 @@ use borrow.Author.Rules.{rules}
 use Rattle.driver.proofs.view.op_length.Statement.{statement}
 use Rattle.driver.proofs.view.op_length.Tie as tie
 
-pub op-length-spec : {M : Type 1} → statement M
-op-length-spec =
+pub op_length_spec : {M : Type 1} → statement M
+op_length_spec =
     tie.close
     (tie.spec
     (λ c κs. search rules)

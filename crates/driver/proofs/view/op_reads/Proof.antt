@@ -3,8 +3,8 @@ use borrow.Author.Rules.{rules}
 use Rattle.driver.proofs.view.op_reads.Statement.{statement}
 use Rattle.driver.proofs.view.op_reads.Tie as tie
 
-pub op-reads-spec : {M : Type 1} → statement M
-op-reads-spec =
+pub op_reads_spec : {M : Type 1} → statement M
+op_reads_spec =
     tie.close
     (tie.spec
     (λ c κs. search rules)

@@ -2,13 +2,13 @@
 use Prim.Native.Nat.{◌+◌}
 use native.Mathlib.Omega.{arith}
 use borrow.Author.Tests.{lt-ltb, le-ltb}
-use Rattle.driver.specs.Views.{opAt}
+use Rattle.driver.specs.Views.{op_at}
 use borrow.Author.Rules.{rules}
 use Rattle.driver.proofs.view.position_after.Statement.{statement}
 use Rattle.driver.proofs.view.position_after.Tie as tie
 
-pub position-after-spec : {M : Type 1} → statement M
-position-after-spec =
+pub position_after_spec : {M : Type 1} → statement M
+position_after_spec =
     tie.close
     (tie.spec
     (λ c. search rules)
@@ -17,10 +17,10 @@ position-after-spec =
     (λ c. search rules)
     (λ c.
     let a = c.before.before.before.before.before.before.before.args in
-    rw (lt-ltb (a.p.at + 255) (opAt a.ops.now a.p.operation).size
+    rw (lt-ltb (a.p.at + 255) (op_at a.ops.now a.p.operation).size
     (omega (arith, c.before.if1.true, c.before.before.op-length.ensures))))
     (λ c. search rules)
     (λ c.
     let a = c.before.before.before.before.before.before.before.args in
-    rw (le-ltb (a.p.at + 255) (opAt a.ops.now a.p.operation).size
+    rw (le-ltb (a.p.at + 255) (op_at a.ops.now a.p.operation).size
     (omega (arith, c.before.if1.false, c.before.before.op-length.ensures)))))

@@ -3,10 +3,10 @@ use Prim.Native.Nat.{◌+◌, ◌-◌, ◌≤◌}
 use native.Mathlib.Omega.{arith}
 use mathlib.Core.Path.{◌≡◌}
 use lib.ListN.{length, get_or, drop}
-use Rattle.fields.proofs.Laws.{get-lt}
-use Rattle.calls.specs.Pieces.{operation-length}
+use Rattle.fields.proofs.Laws.{get_lt}
+use Rattle.calls.specs.Pieces.{operation_length}
 use Rattle.calls.specs.Refusals.{total}
-use Rattle.driver.proofs.Positions.{shifted, position-begins, position_here, position-further, total-further, position_past}
+use Rattle.driver.proofs.Positions.{shifted, position_begins, position_here, position_further, total_further, position_past}
 use Rattle.driver.specs.Views.{position_of}
 use borrow.Author.Rules.{rules}
 use Rattle.driver.proofs.view.position_at.Statement.{statement}
@@ -19,17 +19,17 @@ invariant-loop ops i k₀ left₀ start₀ k left start =
 abbrev decreases-loop : tie.decreases-loop
 decreases-loop ops i k₀ left₀ start₀ k left start = length ops - k
 
-pub position-at-spec : {M : Type 1} → statement M
-position-at-spec =
+pub position_at_spec : {M : Type 1} → statement M
+position_at_spec =
     tie.close
     (tie.spec
     invariant-loop
     decreases-loop
-    (λ c. let a = c.before.args in (omega arith, omega arith, omega (arith, c.before.requires), position-begins a.ops.now a.i))
+    (λ c. let a = c.before.args in (omega arith, omega arith, omega (arith, c.before.requires), position_begins a.ops.now a.i))
     (λ c. search rules)
     (λ c. search rules)
     (λ c κs. search rules)
-    (λ c κs. omega (arith, c.length.ensures, get-lt (get_or c.before.before.before.before.before.args.ops.now c.before.before.before.loop.k 0) operation-length))
+    (λ c κs. omega (arith, c.length.ensures, get_lt (get_or c.before.before.before.before.before.args.ops.now c.before.before.before.loop.k 0) operation_length))
     (λ c. omega (arith, c.before.before.before.before.before.loop.invariant, c.before.before.before.before.before.before.before.requires))
     (λ c. omega (arith, c.before.before.before.before.before.loop.invariant, c.before.before.before.before.before.before.before.requires))
     (λ c. omega (arith, c.before.before.before.before.before.loop.invariant, c.before.before.before.before.before.before.before.requires))
@@ -45,7 +45,7 @@ position-at-spec =
     omega (
       arith,
       j.invariant,
-      total-further a.ops.now a.i j.k j.left j.start j.invariant.3 c.before.before.before.before.loop-test.true _ _
+      total_further a.ops.now a.i j.k j.left j.start j.invariant.3 c.before.before.before.before.loop-test.true _ _
           c.before.before.length.ensures c.before.pieces-in.ensures,
     ))
     (λ c. omega (arith, c.before.before.before.before.before.loop.invariant, c.before.before.before.before.loop-test.true))
@@ -59,9 +59,9 @@ position-at-spec =
       omega (
         arith,
         j.invariant,
-        total-further a.ops.now a.i j.k j.left j.start j.invariant.3 some _ _ c.before.before.length.ensures c.before.pieces-in.ensures,
+        total_further a.ops.now a.i j.k j.left j.start j.invariant.3 some _ _ c.before.before.length.ensures c.before.pieces-in.ensures,
       ),
-      position-further a.ops.now a.i j.k j.left j.start j.invariant.3 some _ _ c.before.before.length.ensures c.before.pieces-in.ensures
+      position_further a.ops.now a.i j.k j.left j.start j.invariant.3 some _ _ c.before.before.length.ensures c.before.pieces-in.ensures
           c.if1.false,
     ))
     (λ c. omega (arith, c.before.loop.invariant, c.before.before.before.requires))

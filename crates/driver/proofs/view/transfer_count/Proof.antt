@@ -6,8 +6,8 @@ use borrow.Author.Rules.{rules}
 use Rattle.driver.proofs.view.transfer_count.Statement.{statement}
 use Rattle.driver.proofs.view.transfer_count.Tie as tie
 
-pub transfer-count-spec : {M : Type 1} → statement M
-transfer-count-spec =
+pub transfer_count_spec : {M : Type 1} → statement M
+transfer_count_spec =
     tie.close
     (tie.spec
     (λ c κs. search rules)

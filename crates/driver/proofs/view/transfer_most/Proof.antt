@@ -4,8 +4,8 @@ use borrow.Author.Rules.{rules}
 use Rattle.driver.proofs.view.transfer_most.Statement.{statement}
 use Rattle.driver.proofs.view.transfer_most.Tie as tie
 
-pub transfer-most-spec : {M : Type 1} → statement M
-transfer-most-spec =
+pub transfer_most_spec : {M : Type 1} → statement M
+transfer_most_spec =
     tie.close
     (tie.spec
     (λ c κs. search rules)

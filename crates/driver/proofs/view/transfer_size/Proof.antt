@@ -6,8 +6,8 @@ use borrow.Author.Rules.{rules}
 use Rattle.driver.proofs.view.transfer_size.Statement.{statement}
 use Rattle.driver.proofs.view.transfer_size.Tie as tie
 
-pub transfer-size-spec : {M : Type 1} → statement M
-transfer-size-spec =
+pub transfer_size_spec : {M : Type 1} → statement M
+transfer_size_spec =
     tie.close
     (tie.spec
     (λ c κs. search rules)

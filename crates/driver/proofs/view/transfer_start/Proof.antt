@@ -6,8 +6,8 @@ use borrow.Author.Rules.{rules}
 use Rattle.driver.proofs.view.transfer_start.Statement.{statement}
 use Rattle.driver.proofs.view.transfer_start.Tie as tie
 
-pub transfer-start-spec : {M : Type 1} → statement M
-transfer-start-spec =
+pub transfer_start_spec : {M : Type 1} → statement M
+transfer_start_spec =
     tie.close
     (tie.spec
     (λ c κs. search rules)

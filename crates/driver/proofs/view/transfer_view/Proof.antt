@@ -4,8 +4,8 @@ use borrow.Author.Rules.{rules}
 use Rattle.driver.proofs.view.transfer_view.Statement.{statement}
 use Rattle.driver.proofs.view.transfer_view.Tie as tie
 
-pub transfer-view-spec : {M : Type 1} → statement M
-transfer-view-spec =
+pub transfer_view_spec : {M : Type 1} → statement M
+transfer_view_spec =
     tie.close
     (tie.spec
     (λ c κs. search rules)

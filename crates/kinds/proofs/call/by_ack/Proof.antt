@@ -3,8 +3,8 @@ use borrow.Author.Rules.{rules}
 use Rattle.kinds.proofs.call.by_ack.Statement.{statement}
 use Rattle.kinds.proofs.call.by_ack.Tie as tie
 
-pub by-ack-spec : {M : Type 1} → statement M
-by-ack-spec =
+pub by_ack_spec : {M : Type 1} → statement M
+by_ack_spec =
     tie.close
     (tie.spec
     (λ c. search rules)

@@ -3,5 +3,5 @@ use borrow.Author.Rules.{rules}
 use Rattle.kinds.proofs.call.is_auto_receiver.Statement.{statement}
 use Rattle.kinds.proofs.call.is_auto_receiver.Tie as tie
 
-pub is-auto-receiver-spec : {M : Type 1} → statement M
-is-auto-receiver-spec = tie.close (tie.spec (λ c κs. search rules) (λ c κs. search rules) (λ c. cc))
+pub is_auto_receiver_spec : {M : Type 1} → statement M
+is_auto_receiver_spec = tie.close (tie.spec (λ c κs. search rules) (λ c κs. search rules) (λ c. cc))

@@ -4,9 +4,9 @@ use borrow.Author.Rules.{rules}
 use Rattle.kinds.proofs.call.is_call.Statement.{statement}
 use Rattle.kinds.proofs.call.is_call.Tie as tie
 
-pub is-call-spec : {M : Type 1} → statement M
+pub is_call_spec : {M : Type 1} → statement M
 unfolding is_call
-is-call-spec =
+is_call_spec =
     tie.close
     (tie.spec
     (λ c κs. search rules)

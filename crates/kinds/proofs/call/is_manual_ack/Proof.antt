@@ -3,8 +3,8 @@ use borrow.Author.Rules.{rules}
 use Rattle.kinds.proofs.call.is_manual_ack.Statement.{statement}
 use Rattle.kinds.proofs.call.is_manual_ack.Tie as tie
 
-pub is-manual-ack-spec : {M : Type 1} → statement M
-is-manual-ack-spec =
+pub is_manual_ack_spec : {M : Type 1} → statement M
+is_manual_ack_spec =
     tie.close
     (tie.spec
     (λ c. search rules)

@@ -3,8 +3,8 @@ use borrow.Author.Rules.{rules}
 use Rattle.kinds.proofs.call.moves_bytes.Statement.{statement}
 use Rattle.kinds.proofs.call.moves_bytes.Tie as tie
 
-pub moves-bytes-spec : {M : Type 1} → statement M
-moves-bytes-spec =
+pub moves_bytes_spec : {M : Type 1} → statement M
+moves_bytes_spec =
     tie.close
     (tie.spec
     (λ c κs. search rules)

@@ -6,8 +6,8 @@ use Rattle.page.proofs.Entries.{done}
 use Rattle.page.proofs.entry.put_done.Statement.{statement}
 use Rattle.page.proofs.entry.put_done.Tie as tie
 
-pub put-done-spec : {M : Type 1} → statement M
-put-done-spec =
+pub put_done_spec : {M : Type 1} → statement M
+put_done_spec =
     tie.close
     (tie.spec
     (λ c. search rules)

@@ -5,8 +5,8 @@ use Rattle.window.proofs.Laid.{found}
 use Rattle.page.proofs.entry.put_name.Statement.{statement}
 use Rattle.page.proofs.entry.put_name.Tie as tie
 
-pub put-name-spec : {M : Type 1} → statement M
-put-name-spec =
+pub put_name_spec : {M : Type 1} → statement M
+put_name_spec =
     tie.close
     (tie.spec
     (λ c. search rules)

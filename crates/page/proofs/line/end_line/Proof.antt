@@ -4,8 +4,8 @@ use Rattle.window.proofs.Laid.{then}
 use Rattle.page.proofs.line.end_line.Statement.{statement}
 use Rattle.page.proofs.line.end_line.Tie as tie
 
-pub end-line-spec : {M : Type 1} → statement M
-end-line-spec =
+pub end_line_spec : {M : Type 1} → statement M
+end_line_spec =
     tie.close
     (tie.spec
     (λ c. search rules)

@@ -4,8 +4,8 @@ use Rattle.page.proofs.Putting.{fits, breaks}
 use Rattle.page.proofs.line.make_room.Statement.{statement}
 use Rattle.page.proofs.line.make_room.Tie as tie
 
-pub make-room-spec : {M : Type 1} → statement M
-make-room-spec =
+pub make_room_spec : {M : Type 1} → statement M
+make_room_spec =
     tie.close
     (tie.spec
     (λ c. search rules)

@@ -4,8 +4,8 @@ use Rattle.page.proofs.Putting.{added}
 use Rattle.page.proofs.line.put_token.Statement.{statement}
 use Rattle.page.proofs.line.put_token.Tie as tie
 
-pub put-token-spec : {M : Type 1} → statement M
-put-token-spec =
+pub put_token_spec : {M : Type 1} → statement M
+put_token_spec =
     tie.close
     (tie.spec
     (λ c. search rules)

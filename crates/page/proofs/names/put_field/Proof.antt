@@ -4,8 +4,8 @@ use Rattle.page.proofs.Putting.{field-cases}
 use Rattle.page.proofs.names.put_field.Statement.{statement}
 use Rattle.page.proofs.names.put_field.Tie as tie
 
-pub put-field-spec : {M : Type 1} → statement M
-put-field-spec =
+pub put_field_spec : {M : Type 1} → statement M
+put_field_spec =
     tie.close
     (tie.spec
     (λ c. search (rules, field-cases))

@@ -3,19 +3,19 @@ use borrow.Author.Rules.{rules}
 use Prim.Native.Nat.{◌≤◌}
 use mathlib.Core.Path.{◌≡◌, refl}
 use lib.ListN.{length}
-use Rattle.page.specs.Put.{asPut, fieldsIn, fieldsPut}
-use Rattle.page.proofs.Putting.{fields-shown, next_field}
+use Rattle.page.specs.Put.{as_put, fields_in, fields_put}
+use Rattle.page.proofs.Putting.{fields_shown, next_field}
 use Rattle.page.proofs.names.put_fields.Statement.{statement}
 use Rattle.page.proofs.names.put_fields.Tie as tie
 
 abbrev invariant-loop : tie.invariant-loop
-invariant-loop value n layout out₀ line₀ left₀ rest₀ out line left rest = (length out ≡ length out₀) × (line.column ≤ 80) × (fieldsPut value (fieldsIn left rest) (asPut line out) ≡ fieldsPut value (fieldsIn n layout) (asPut line₀ out₀))
+invariant-loop value n layout out₀ line₀ left₀ rest₀ out line left rest = (length out ≡ length out₀) × (line.column ≤ 80) × (fields_put value (fields_in left rest) (as_put line out) ≡ fields_put value (fields_in n layout) (as_put line₀ out₀))
 
 abbrev decreases-loop : tie.decreases-loop
 decreases-loop value n layout out₀ line₀ left₀ rest₀ out line left rest = left
 
-pub put-fields-spec : {M : Type 1} → statement M
-put-fields-spec =
+pub put_fields_spec : {M : Type 1} → statement M
+put_fields_spec =
     tie.close
     (tie.spec
     invariant-loop
@@ -33,4 +33,4 @@ put-fields-spec =
     (λ c. search (rules, next_field))
     (λ c κs. search rules)
     (λ c. search rules)
-    (λ c. search (rules, fields-shown)))
+    (λ c. search (rules, fields_shown)))

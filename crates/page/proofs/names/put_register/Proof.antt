@@ -2,16 +2,16 @@
 use borrow.Author.Rules.{rules}
 use mathlib.Core.Path.{refl}
 use Rattle.registers.specs.declared.Register.TheVariants.{Cr1, Cr2, Oar1, Oar2, Timingr, Isr, Icr, Rxdr, Txdr}
-use Rattle.numerals.specs.Numbers.{parsedOf, isHex, number_of, digitOf}
-use Rattle.numerals.specs.Words.{isBlank}
-use Rattle.page.specs.Put.{fieldsIn}
+use Rattle.numerals.specs.Numbers.{parsed_of, is_hex, number_of, digit_of}
+use Rattle.numerals.specs.Words.{is_blank}
+use Rattle.page.specs.Put.{fields_in}
 use Rattle.page.proofs.Putting.{told}
 use Rattle.page.proofs.names.put_register.Statement.{statement}
 use Rattle.page.proofs.names.put_register.Tie as tie
 
-pub put-register-spec : {M : Type 1} → statement M
-unfolding fieldsIn parsedOf isHex number_of digitOf isBlank
-put-register-spec =
+pub put_register_spec : {M : Type 1} → statement M
+unfolding fields_in parsed_of is_hex number_of digit_of is_blank
+put_register_spec =
     tie.close
     (tie.spec
     (λ c. search rules)

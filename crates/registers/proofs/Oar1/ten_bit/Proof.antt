@@ -3,6 +3,6 @@ use borrow.Author.Rules.{rules}
 use Rattle.registers.proofs.Oar1.ten_bit.Statement.{statement}
 use Rattle.registers.proofs.Oar1.ten_bit.Tie as tie
 
-pub ten-bit-spec : {M : Type 1} → statement M
-ten-bit-spec =
+pub ten_bit_spec : {M : Type 1} → statement M
+ten_bit_spec =
     tie.close (tie.spec (λ c κs. search rules) (λ c κs. search rules) (λ c. cc))

@@ -4,8 +4,8 @@ use Rattle.fields.proofs.Tests.{tests}
 use Rattle.saved.proofs.outcome.without_value.Statement.{statement}
 use Rattle.saved.proofs.outcome.without_value.Tie as tie
 
-pub without-value-spec : {M : Type 1} → statement M
-without-value-spec =
+pub without_value_spec : {M : Type 1} → statement M
+without_value_spec =
     tie.close
     (tie.spec
     (λ c. search (rules, tests))

@@ -1,12 +1,12 @@
 -- `step::step_number` meets its contract. Assumes nothing.
 use borrow.Author.Rules.{rules}
-use Rattle.calls.specs.Steps.{stepNumber}
+use Rattle.calls.specs.Steps.{step_number}
 use Rattle.calls.proofs.Logic.{arm}
 use Rattle.saved.proofs.step.step_number.Statement.{statement}
 use Rattle.saved.proofs.step.step_number.Tie as tie
 
-pub step-number-spec : {M : Type 1} → statement M
-step-number-spec =
+pub step_number_spec : {M : Type 1} → statement M
+step_number_spec =
     tie.close
     (tie.spec
     (λ c. search rules)
@@ -41,31 +41,31 @@ step-number-spec =
     (λ c. search rules)
     (λ c κs. search rules)
     (λ c. search (rules, c.modify-number2.ensures))
-    (λ c. search (arm stepNumber))
-    (λ c. search (arm stepNumber))
-    (λ c. search (arm stepNumber))
-    (λ c. search (arm stepNumber))
-    (λ c. search (arm stepNumber))
-    (λ c. search (arm stepNumber))
-    (λ c. search (arm stepNumber))
-    (λ c. search (arm stepNumber))
-    (λ c. search (arm stepNumber))
-    (λ c. search (arm stepNumber))
-    (λ c. search (arm stepNumber))
-    (λ c. search (arm stepNumber))
-    (λ c. search (arm stepNumber))
-    (λ c. search (arm stepNumber))
-    (λ c. search (arm stepNumber))
-    (λ c. search (arm stepNumber))
-    (λ c. search (arm stepNumber))
-    (λ c. search (arm stepNumber))
-    (λ c. search (arm stepNumber))
-    (λ c. search (arm stepNumber))
-    (λ c. search (arm stepNumber))
-    (λ c. search (arm stepNumber))
-    (λ c. search (arm stepNumber))
-    (λ c. search (arm stepNumber))
-    (λ c. search (arm stepNumber))
-    (λ c. search (arm stepNumber))
+    (λ c. search (arm step_number))
+    (λ c. search (arm step_number))
+    (λ c. search (arm step_number))
+    (λ c. search (arm step_number))
+    (λ c. search (arm step_number))
+    (λ c. search (arm step_number))
+    (λ c. search (arm step_number))
+    (λ c. search (arm step_number))
+    (λ c. search (arm step_number))
+    (λ c. search (arm step_number))
+    (λ c. search (arm step_number))
+    (λ c. search (arm step_number))
+    (λ c. search (arm step_number))
+    (λ c. search (arm step_number))
+    (λ c. search (arm step_number))
+    (λ c. search (arm step_number))
+    (λ c. search (arm step_number))
+    (λ c. search (arm step_number))
+    (λ c. search (arm step_number))
+    (λ c. search (arm step_number))
+    (λ c. search (arm step_number))
+    (λ c. search (arm step_number))
+    (λ c. search (arm step_number))
+    (λ c. search (arm step_number))
+    (λ c. search (arm step_number))
+    (λ c. search (arm step_number))
     (λ c. rw (c.before.before.t.given.1, c.modify-number.ensures.0))
     (λ c. rw (c.before.before.t2.given.1, c.modify-number2.ensures.0)))

@@ -3,8 +3,8 @@ use borrow.Author.Rules.{rules}
 use Rattle.timing.proofs.I2cTiming.word.Statement.{statement}
 use Rattle.timing.proofs.I2cTiming.word.Tie as tie
 
-pub word-spec : {M : Type 1} → statement M
-word-spec =
+pub word_spec : {M : Type 1} → statement M
+word_spec =
     tie.close
     (tie.spec
     (λ c. search rules)

@@ -11,8 +11,8 @@ invariant-loop input line₀ i₀ i-end line i = Unit {0}
 abbrev decreases-loop : tie.decreases-loop
 decreases-loop input line₀ i₀ i-end line i = length input - i
 
-pub push-all-spec : {M : Type 1} → statement M
-push-all-spec =
+pub push_all_spec : {M : Type 1} → statement M
+push_all_spec =
     tie.close
     (tie.spec
     invariant-loop

@@ -11,8 +11,8 @@ invariant-loop line rest₀ i₀ i-end rest i = Unit {0}
 abbrev decreases-loop : tie.decreases-loop
 decreases-loop line rest₀ i₀ i-end rest i = length line - i
 
-pub count-words-spec : {M : Type 1} → statement M
-count-words-spec =
+pub count_words_spec : {M : Type 1} → statement M
+count_words_spec =
     tie.close
     (tie.spec
     invariant-loop

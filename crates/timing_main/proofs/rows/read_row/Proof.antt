@@ -10,8 +10,8 @@ invariant-loop line row₀ rest₀ i₀ row rest i = Unit {0}
 abbrev decreases-loop : tie.decreases-loop
 decreases-loop line row₀ rest₀ i₀ row rest i = 6 - i
 
-pub read-row-spec : {M : Type 1} → statement M
-read-row-spec =
+pub read_row_spec : {M : Type 1} → statement M
+read_row_spec =
     tie.close
     (tie.spec
     invariant-loop
