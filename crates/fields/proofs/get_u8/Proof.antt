@@ -9,13 +9,13 @@ use Rattle.fields.proofs.Laws.{get_lt}
 use Rattle.fields.proofs.get_u8.Statement.{statement}
 use Rattle.fields.proofs.get_u8.Tie as tie
 
-cast_result : tie.Need-overflow-cast-result
+cast_result : tie.Need-overflow_cast-result
 cast_result c =
     omega (
       arith,
       c.get.ensures,
-      get_lt c.before.before.args.word (place c.before.before.args.at c.before.least.result),
-      pow_mono {i = c.before.least.result} {j = 8} (omega (arith, c.before.least.ensures)),
+      get_lt c.before.before.args.word (place c.before.before.args.at c.before.least-narrow.result),
+      pow_mono {i = c.before.least-narrow.result} {j = 8} (omega (arith, c.before.least-narrow.ensures)),
     )
 
 pub get_u8_spec : {M : Type 1} → statement M
@@ -25,4 +25,4 @@ get_u8_spec =
     (λ c κs. search rules)
     (λ c κs. search rules)
     cast_result
-    (λ c. c.get.ensures ∙ ap (λ (n : ℕ). get_of c.before.before.args.word (place c.before.before.args.at n)) c.before.least.ensures))
+    (λ c. c.get.ensures ∙ ap (λ (n : ℕ). get_of c.before.before.args.word (place c.before.before.args.at n)) c.before.least-narrow.ensures))

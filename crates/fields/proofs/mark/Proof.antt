@@ -9,5 +9,5 @@ mark_spec =
     (tie.spec
     (λ c κs. search rules)
     (λ c κs. search rules)
-    (λ c. rw c.before.if1.true c.put.ensures)
-    (λ c. rw c.before.if1.false c.put2.ensures))
+    (λ c. rw c.before.if-on.true c.put.ensures)
+    (λ c. rw c.before.if-on.false c.put-else-on.ensures))

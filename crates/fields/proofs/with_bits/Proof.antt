@@ -11,4 +11,4 @@ with_bits_spec =
     (λ c κs. search rules)
     (λ c. search rules)
     (λ c. search rules)
-    (λ c. masked _ _ _ _ _ c.mask.ensures c.before.ranges.word.fits c.before.requires.1))
+    (λ c. masked _ _ _ _ _ c.mask-m.ensures c.before.ranges.word.fits c.before.requires.1))

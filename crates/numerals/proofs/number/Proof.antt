@@ -9,10 +9,10 @@ use Rattle.numerals.proofs.Numbers.{number_after, digits}
 use Rattle.numerals.proofs.number.Statement.{statement}
 use Rattle.numerals.proofs.number.Tie as tie
 
-abbrev invariant-loop : tie.invariant-loop
+abbrev invariant-loop : tie.invariant-loop-i
 invariant-loop s base value₀ i₀ i-end value i = (i ≤ length s) × (value ≤ 4294967295) × (number_of base s ≡ number_after base value (drop i s))
 
-abbrev decreases-loop : tie.decreases-loop
+abbrev decreases-loop : tie.decreases-loop-i
 decreases-loop s base value₀ i₀ i-end value i = length s - i
 
 pub number_spec : {M : Type 1} → statement M

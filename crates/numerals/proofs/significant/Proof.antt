@@ -9,10 +9,10 @@ use Rattle.numerals.proofs.Spelling.{zeros}
 use Rattle.numerals.proofs.significant.Statement.{statement}
 use Rattle.numerals.proofs.significant.Tie as tie
 
-abbrev invariant-loop : tie.invariant-loop
+abbrev invariant-loop : tie.invariant-loop-rest
 invariant-loop s rest₀ rest = significant_of s ≡ significant_of rest
 
-abbrev decreases-loop : tie.decreases-loop
+abbrev decreases-loop : tie.decreases-loop-rest
 decreases-loop s rest₀ rest = length rest
 
 pub significant_spec : {M : Type 1} → statement M

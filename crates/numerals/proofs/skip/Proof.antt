@@ -9,10 +9,10 @@ use Rattle.numerals.proofs.Words.{turns}
 use Rattle.numerals.proofs.skip.Statement.{statement}
 use Rattle.numerals.proofs.skip.Tie as tie
 
-abbrev invariant-loop : tie.invariant-loop
+abbrev invariant-loop : tie.invariant-loop-rest
 invariant-loop s blank rest₀ rest = drop_while (blank_is blank) s ≡ drop_while (blank_is blank) rest
 
-abbrev decreases-loop : tie.decreases-loop
+abbrev decreases-loop : tie.decreases-loop-rest
 decreases-loop s blank rest₀ rest = length rest
 
 pub skip_spec : {M : Type 1} → statement M

@@ -11,11 +11,11 @@ use Rattle.numerals.proofs.Spelling.{below, starts, writes, ends}
 use Rattle.numerals.proofs.spell.Statement.{statement}
 use Rattle.numerals.proofs.spell.Tie as tie
 
-abbrev invariant-loop : tie.invariant-loop
+abbrev invariant-loop : tie.invariant-loop-i
 invariant-loop n base text₀ rest₀ i₀ text rest i =
     (i ≤ length text) × (length text ≡ length text₀) × (spelled_of base i rest ++ drop i text ≡ spelled_of base (length text₀) n)
 
-abbrev decreases-loop : tie.decreases-loop
+abbrev decreases-loop : tie.decreases-loop-i
 decreases-loop n base text₀ rest₀ i₀ text rest i = i
 
 pub spell_spec : {M : Type 1} → statement M

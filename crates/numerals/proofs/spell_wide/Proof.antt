@@ -10,10 +10,10 @@ use Rattle.numerals.proofs.Spelling.{starts, writes, ends}
 use Rattle.numerals.proofs.spell_wide.Statement.{statement}
 use Rattle.numerals.proofs.spell_wide.Tie as tie
 
-abbrev invariant-loop : tie.invariant-loop
+abbrev invariant-loop : tie.invariant-loop-i
 invariant-loop n text₀ rest₀ i₀ text rest i = (i ≤ length text) × (length text ≡ length text₀) × (spelled_of 10 i rest ++ drop i text ≡ spelled_of 10 (length text₀) n)
 
-abbrev decreases-loop : tie.decreases-loop
+abbrev decreases-loop : tie.decreases-loop-i
 decreases-loop n text₀ rest₀ i₀ text rest i = i
 
 pub spell_wide_spec : {M : Type 1} → statement M

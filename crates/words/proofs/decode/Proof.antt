@@ -8,11 +8,11 @@ use lib.ListN.{length}
 use Rattle.words.specs.Words.{words_in}
 use Rattle.words.proofs.Turns.{Reading, decodes}
 
-abbrev invariant-loop : tie.invariant-loop
+abbrev invariant-loop : tie.invariant-loop-rest
 invariant-loop bytes words₀ n₀ rest₀ words n rest =
     (length words ≡ length words₀) × Reading (words_in bytes) words₀ n words rest
 
-abbrev decreases-loop : tie.decreases-loop
+abbrev decreases-loop : tie.decreases-loop-rest
 decreases-loop bytes words₀ n₀ rest₀ words n rest = length rest
 
 pub decode_spec : {M : Type 1} → statement M

@@ -7,11 +7,11 @@ use Prim.Native.Nat.{◌-◌, ◌*◌, ◌≤◌}
 use lib.ListN.{length}
 use Rattle.words.proofs.Turns.{begun, one_put, encodes}
 
-abbrev invariant-loop : tie.invariant-loop
+abbrev invariant-loop : tie.invariant-loop-i
 invariant-loop words bytes₀ n i₀ bytes i =
     (length bytes ≡ length bytes₀) × (n ≡ length words) × (i ≤ length words) × (4 * length words ≤ length bytes₀) × (bytes ≡ begun words bytes₀ i)
 
-abbrev decreases-loop : tie.decreases-loop
+abbrev decreases-loop : tie.decreases-loop-i
 decreases-loop words bytes₀ n i₀ bytes i = n - i
 
 pub encode_spec : {M : Type 1} → statement M
@@ -28,6 +28,6 @@ encode_spec =
     (λ c κs. search (rules, encodes))
     (λ c. search rules)
     (λ c. search rules)
-    (λ c. let v = c.before.before.before.before.before.before.loop.invariant in (search rules, search rules, search rules, search rules, one_put _ _ _ _ v.4 v.3 (search rules) _ _ refl c.before.before.put.ensures))
+    (λ c. let v = c.before.before.before.before.before.before.loop-i.invariant in (search rules, search rules, search rules, search rules, one_put _ _ _ _ v.4 v.3 (search rules) _ _ refl c.before.before.put.ensures))
     (λ c. search rules)
     (λ c. search (rules, encodes)))

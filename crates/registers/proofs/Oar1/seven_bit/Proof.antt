@@ -13,4 +13,4 @@ seven_bit_spec =
     tie.close
     (tie.spec
     (λ c κs. search rules)
-    (λ c. c.with-oa1.ensures ∙ put_low 0 OAR1_OA1 _ _ (mod-mod-pow (c.before.args.own * 2) 22 10)))
+    (λ c. c.with_oa1.ensures ∙ put_low 0 OAR1_OA1 _ _ (mod-mod-pow (c.before.args.own * 2) 22 10)))

@@ -14,4 +14,4 @@ masked_spec =
     (λ c κs. search rules)
     (λ c. search rules)
     (λ c κs. search rules)
-    (λ c. rw (← c.before.secondary.ensures) (c.with-oa2msk.ensures ∙ put_low _ OAR2_OA2MSK _ _ (omega arith))))
+    (λ c. rw (← c.before.secondary.ensures) (c.with_oa2msk.ensures ∙ put_low _ OAR2_OA2MSK _ _ (omega arith))))
