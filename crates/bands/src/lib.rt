@@ -9,14 +9,14 @@ ghost use Rattle.bands.specs.Table.{shape_of, band_in, bands_from, bands_in};
 use timing::{Band, I2cTiming, Shape, Timed, TimingRefusal};
 
 // Whether a table was accepted.
-#[derive(Drop)]
+#[derive(Clone, Copy)]
 pub enum Loaded {
     Accepted,
     Refused(TimingRefusal),
 }
 
 // The row of a table that a frequency falls into.
-#[derive(Drop)]
+#[derive(Clone, Copy)]
 enum Found {
     Row(Band),
     Above,

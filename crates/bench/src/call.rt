@@ -13,7 +13,7 @@ use lines::Form;
 use window::Cursor;
 
 // What the line of a call says besides its number.
-#[derive(Drop)]
+#[derive(Clone, Copy)]
 pub struct Told {
     pub report: Report,
     pub used: usize,

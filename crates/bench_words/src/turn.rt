@@ -10,7 +10,7 @@ const FILE: usize = 65_536;
 // Room for a text and a byte more, by which one that is too long is found out.
 const ROOM: usize = TEXT + 1;
 
-#[derive(Drop)]
+#[derive(Clone, Copy)]
 pub enum Way {
     ToWords,
     ToText,

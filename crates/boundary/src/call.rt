@@ -9,7 +9,7 @@ use kinds::{refusal, report};
 use timing::RawTimingr;
 
 // What is asked, in numbers. A call looks only at those that belong to it.
-#[derive(Drop)]
+#[derive(Clone, Copy)]
 pub struct CallDescription {
     pub call: u32,
     pub address: u32,
@@ -23,7 +23,7 @@ pub struct CallDescription {
     pub mask: u32,
 }
 
-#[derive(Drop)]
+#[derive(Clone, Copy)]
 pub struct AccessAnswer {
     pub kind: u32,
     pub value: u32,

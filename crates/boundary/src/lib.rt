@@ -29,7 +29,7 @@ pub extern "C" fn huskerivory_abi(sizes: &mut [u32; 8]) -> u32
 }
 
 // A TIMINGR word, or the number of a refusal and word 0.
-#[derive(Drop)]
+#[derive(Clone, Copy)]
 struct TimingAnswer {
     refusal: u32,
     timingr: u32,

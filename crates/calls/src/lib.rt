@@ -7,7 +7,7 @@ use registers::Register;
 use timing::RawTimingr;
 
 // The listed calls, by the names of the Rust's functions.
-#[derive(Drop)]
+#[derive(Clone, Copy)]
 pub enum Call {
     New,
     TargetNew,
@@ -27,33 +27,33 @@ pub enum Call {
 }
 
 // Who acknowledges received bytes: the peripheral, or the caller at the end of a transfer.
-#[derive(Drop)]
+#[derive(Clone, Copy)]
 pub enum Ack {
     AutoAck,
     ManualAck,
 }
 
-#[derive(Drop)]
+#[derive(Clone, Copy)]
 pub enum AddressMode {
     AddressMode7bit,
     AddressMode10bit,
 }
 
 // A target's second address, of seven bits, and how many of its low bits are not compared: each may be absent.
-#[derive(Drop)]
+#[derive(Clone, Copy)]
 pub enum SecondaryAddress {
     NoSecondary,
     Secondary(u32),
 }
 
-#[derive(Drop)]
+#[derive(Clone, Copy)]
 pub enum MaskBits {
     Unmasked,
     Masked(u32),
 }
 
 // A target's addresses. They hold any word, so that every one that does not fit can be refused.
-#[derive(Drop)]
+#[derive(Clone, Copy)]
 pub struct TargetConfig {
     pub own: u32,
     pub secondary: SecondaryAddress,
@@ -110,7 +110,7 @@ impl TargetConfig {
 }
 
 // A configuration, or none: call 1 may go without.
-#[derive(Drop)]
+#[derive(Clone, Copy)]
 pub enum Configuration {
     Unconfigured,
     Configured(TargetConfig),
@@ -119,7 +119,7 @@ pub enum Configuration {
 // What is asked of the driver. The operation list and the buffer are lent beside it. A call looks only at the words
 // that belong to it: the address and its mode at 7, the listen kind at 4 and 5, the timing at 1 and 2, the configuration at
 // 1 to 3.
-#[derive(Drop)]
+#[derive(Clone, Copy)]
 pub struct Description {
     pub call: u32,
     pub address: u32,
@@ -130,7 +130,7 @@ pub struct Description {
 }
 
 // Why a call is refused.
-#[derive(Drop)]
+#[derive(Clone, Copy)]
 pub enum Refusal {
     Address,
     List,
@@ -140,7 +140,7 @@ pub enum Refusal {
 }
 
 // What comes of a call.
-#[derive(Drop)]
+#[derive(Clone, Copy)]
 pub enum Outcome {
     Done(u32),
     Bus,
@@ -155,7 +155,7 @@ pub enum Outcome {
 }
 
 // The register writes that keep most of what was read: a read, then a write with some fields replaced.
-#[derive(Drop)]
+#[derive(Clone, Copy)]
 pub enum Modify {
     PeOff,
     PeOn,
@@ -170,7 +170,7 @@ pub enum Modify {
 }
 
 // One register access each.
-#[derive(Drop)]
+#[derive(Clone, Copy)]
 pub enum Step {
     Ended,
     Begin,
@@ -205,7 +205,7 @@ pub enum Step {
 // A call between two advances. `piece` is the operation of a transaction or the block of a target transfer, `byte` the byte
 // within it, `out` the bytes that a manual write has put out, `word` what the running modify read; before the end `outcome` is
 // what is on its way.
-#[derive(Drop)]
+#[derive(Clone, Copy)]
 pub struct SavedCall {
     pub call: u32,
     pub piece: u32,
@@ -220,7 +220,7 @@ pub struct SavedCall {
 // What a step sees of the running piece: its place in the buffer, its length and direction, whether it is the last, whether
 // the next piece goes the same way and whether the one before it did, and whether the call has any piece; and `most`, the number
 // at which the call's `out` is held.
-#[derive(Drop)]
+#[derive(Clone, Copy)]
 pub struct View {
     pub start: u32,
     pub size: u32,
@@ -233,7 +233,7 @@ pub struct View {
 }
 
 // The next access. `Take` reads RXDR, and its low eight bits go to that place of the buffer.
-#[derive(Drop)]
+#[derive(Clone, Copy)]
 pub enum Access {
     Read(Register),
     Take(usize),
@@ -242,7 +242,7 @@ pub enum Access {
 }
 
 // The flag of ISR that a wait awaits.
-#[derive(Drop)]
+#[derive(Clone, Copy)]
 pub enum Flag {
     Rxne,
     Txis,
@@ -253,7 +253,7 @@ pub enum Flag {
 }
 
 // What an answer leads to.
-#[derive(Drop)]
+#[derive(Clone, Copy)]
 pub enum Effect {
     Goes(Step),
     Loads(Step),
@@ -266,7 +266,7 @@ pub enum Effect {
 
 // How an advance comes out: the call is over, the log is full, a read of that register waits for its answer, or the advance
 // is refused.
-#[derive(Drop)]
+#[derive(Clone, Copy)]
 pub enum Report {
     Over(Outcome),
     Full,
@@ -275,26 +275,26 @@ pub enum Report {
 }
 
 // What is found of a call number, and of a description.
-#[derive(Drop)]
+#[derive(Clone, Copy)]
 pub enum Lookup {
     Listed(Call),
     Unlisted,
 }
 
-#[derive(Drop)]
+#[derive(Clone, Copy)]
 pub enum Verdict {
     Accepted(Call),
     Refused(Refusal),
 }
 
 // What begin returns. A refused call's saved call has number 0, which no advance takes.
-#[derive(Drop)]
+#[derive(Clone, Copy)]
 pub struct Begun {
     pub saved: SavedCall,
     pub verdict: Verdict,
 }
 
-#[derive(Drop)]
+#[derive(Clone, Copy)]
 pub struct Advanced {
     pub used: usize,
     pub written: usize,
@@ -304,7 +304,7 @@ pub struct Advanced {
 
 // The next access of a saved call: the register that it goes to, read or written; or there is none, since the call is over
 // or refused.
-#[derive(Drop)]
+#[derive(Clone, Copy)]
 pub enum Next {
     Over,
     Read(Register),

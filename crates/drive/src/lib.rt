@@ -16,7 +16,7 @@ const LOG: usize = 1024;
 const PIECES: usize = 256;
 
 // How far a call has come: where its text stands, and what its advances gave.
-#[derive(Drop)]
+#[derive(Clone, Copy)]
 pub struct Driven {
     pub place: Cursor,
     pub advanced: Advanced,

@@ -14,7 +14,7 @@ use kinds::outcome;
 use registers::Register;
 
 // Whether the turn was made, the answers used, and what the saved call changes to.
-#[derive(Drop)]
+#[derive(Clone, Copy)]
 pub struct Quick {
     pub made: bool,
     pub used: usize,

@@ -15,7 +15,7 @@ use calls::{Access, Advanced, Call, Description, Report, SavedCall, View};
 use registers::{Register, Rxdr};
 
 // What a turn finds: whether there is an access to make, the report where there is none, and the answer to a read.
-#[derive(Drop)]
+#[derive(Clone, Copy)]
 pub struct Attempt {
     pub going: bool,
     pub report: Report,
@@ -24,7 +24,7 @@ pub struct Attempt {
 }
 
 // How a turn comes out: with the call after its access, where there was one.
-#[derive(Drop)]
+#[derive(Clone, Copy)]
 pub struct Turned {
     pub going: bool,
     pub report: Report,

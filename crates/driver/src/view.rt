@@ -13,7 +13,7 @@ use kinds::call::{is_manual, is_manual_write, is_receiver, is_transaction, moves
 use kinds::operation;
 
 // Where a piece of a transaction lies: in which operation, and where in its bytes and in the buffer it begins.
-#[derive(Drop)]
+#[derive(Clone, Copy)]
 pub struct Position {
     pub operation: u32,
     pub at: u32,
@@ -21,7 +21,7 @@ pub struct Position {
 }
 
 // The view of the running piece and, of a transaction, what the next one is found by.
-#[derive(Drop)]
+#[derive(Clone, Copy)]
 pub struct Cursor {
     pub view: View,
     pub operation: u32,

@@ -7,7 +7,7 @@ ghost use Rattle.in_place.specs.InPlace.{in_place};
 use calls::{Advanced, Description, Report, SavedCall};
 
 // What an advance says, beside the saved call.
-#[derive(Drop)]
+#[derive(Clone, Copy)]
 pub struct Progress {
     pub used: usize,
     pub written: usize,

@@ -9,7 +9,7 @@ use kinds::report;
 use window::Cursor;
 
 // How a log stands in the text: as access lines, or as a service page.
-#[derive(Drop)]
+#[derive(Clone, Copy)]
 pub enum Form {
     Lines,
     Page,

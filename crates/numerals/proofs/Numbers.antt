@@ -1,7 +1,7 @@
 -- How the digits read so far and those that are left decide a number. Assumes nothing.
 use Prim.Native.Nat.{ℕ, ◌+◌, ◌-◌, ◌*◌, ◌≤◌, ◌<◌}
 use mathlib.Core.Path.{◌≡◌, refl, sym, ◌∙◌}
-use mathlib.Core.Bool.{Bool, true, false, cond, ◌&&◌, and_false}
+use mathlib.Core.Bool.{Bool, true, false, cond, ◌&&◌, and-false}
 use mathlib.Core.List.{List, [], ◌∷◌}
 use native.Mathlib.Nat.{mul-le-mul_left}
 use native.Mathlib.Numerals.{add-one}
@@ -28,7 +28,7 @@ grows base v (b ∷ s) h = omega (arith, grows base (v * base + digit_of b) s h,
 
 too_large : (base v : ℕ) (s : List ℕ) → 1 ≤ base → 4294967295 < v → number_after base v s ≡ NotNumber
 unfolding number_after
-too_large base v s h l = let g : v ≤ value_after base v s = grows base v s h in simp (lt-leb (value_after base v s) 4294967295 (omega arith), and_false)
+too_large base v s h l = let g : v ≤ value_after base v s = grows base v s h in simp (lt-leb (value_after base v s) 4294967295 (omega arith), and-false)
 
 pub empty : (base : ℕ) (s : List ℕ) → length s ≡ 0 → NotNumber ≡ number_of base s
 unfolding number_of

@@ -13,7 +13,7 @@ mod line;
 mod names;
 
 // What an entry's code says.
-#[derive(Drop)]
+#[derive(Clone, Copy)]
 pub enum Access {
     Read(Register),
     Write(Register),
@@ -21,7 +21,7 @@ pub enum Access {
 }
 
 // What is wrong with a log: its last entry is not whole, or the entry of a number has no register's code.
-#[derive(Drop)]
+#[derive(Clone, Copy)]
 pub enum Fault {
     Nothing,
     NotWhole,
@@ -29,7 +29,7 @@ pub enum Fault {
 }
 
 // A page is laid out and has so many bytes, or it is refused as 15.
-#[derive(Drop)]
+#[derive(Clone, Copy)]
 pub enum Page {
     Laid(usize),
     Refused,
@@ -58,7 +58,7 @@ impl Page {
 }
 
 // How long a page is, if it fits.
-#[derive(Drop)]
+#[derive(Clone, Copy)]
 enum Size {
     Fits(usize),
     Over,

@@ -9,7 +9,7 @@ ghost use Rattle.window.specs.Window.{laid, emit_of};
 use window::Cursor;
 
 // Where the text stands, how many columns of its line are used, and that the bits from `top` on are shown.
-#[derive(Drop)]
+#[derive(Clone, Copy)]
 pub struct Line {
     pub place: Cursor,
     pub column: usize,

@@ -94,7 +94,7 @@ fn is_strange(o: u32) -> bool
 }
 
 // What row 10 asks of a list.
-#[derive(Drop)]
+#[derive(Clone, Copy)]
 struct Survey {
     strange: bool,
     total: u32,

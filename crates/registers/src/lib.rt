@@ -7,7 +7,7 @@ ghost use Rattle.registers.specs.Addresses.{seven_bit_own, ten_bit_own, secondar
 ghost use Rattle.registers.specs.Places.{CR1_GCEN, CR1_SBC, CR1_ANFOFF, CR1_PE, CR2_AUTOEND, CR2_RELOAD, CR2_NBYTES, CR2_NACK, CR2_START, CR2_HEAD10R, CR2_ADD10, CR2_RD_WRN, CR2_SADD, OAR1_OA1EN, OAR1_OA1MODE, OAR1_OA1, OAR2_OA2EN, OAR2_OA2MSK, OAR2_OA2, TIMINGR_PRESC, TIMINGR_SCLDEL, TIMINGR_SDADEL, TIMINGR_SCLH, TIMINGR_SCLL, ISR_ADDCODE, ISR_DIR, ISR_ARLO, ISR_BERR, ISR_TCR, ISR_TC, ISR_STOPF, ISR_NACKF, ISR_ADDR, ISR_RXNE, ISR_TXIS, ISR_TXE, ICR_ARLOCF, ICR_BERRCF, ICR_STOPCF, ICR_NACKCF, ICR_ADDRCF, RXDR_RXDATA, TXDR_TXDATA};
 
 // Which register an access goes to.
-#[derive(Drop)]
+#[derive(Clone, Copy)]
 pub enum Register {
     Cr1,
     Cr2,
@@ -56,7 +56,7 @@ impl Register {
 }
 
 // Control register 1.
-#[derive(Drop)]
+#[derive(Clone, Copy)]
 pub struct Cr1(pub u32);
 
 impl Cr1 {
@@ -97,7 +97,7 @@ impl Cr1 {
 }
 
 // Control register 2.
-#[derive(Drop)]
+#[derive(Clone, Copy)]
 pub struct Cr2(pub u32);
 
 impl Cr2 {
@@ -169,7 +169,7 @@ impl Cr2 {
 }
 
 // Own address register 1: the primary address of a target.
-#[derive(Drop)]
+#[derive(Clone, Copy)]
 pub struct Oar1(pub u32);
 
 impl Oar1 {
@@ -221,7 +221,7 @@ impl Oar1 {
 }
 
 // Own address register 2: the secondary address of a target, seven bits, and its mask.
-#[derive(Drop)]
+#[derive(Clone, Copy)]
 pub struct Oar2(pub u32);
 
 impl Oar2 {
@@ -263,7 +263,7 @@ impl Oar2 {
 }
 
 // Timing register.
-#[derive(Drop)]
+#[derive(Clone, Copy)]
 pub struct Timingr(pub u32);
 
 impl Timingr {
@@ -333,7 +333,7 @@ impl Timingr {
 }
 
 // Interrupt and status register. Writing TXE 1 empties the transmit register.
-#[derive(Drop)]
+#[derive(Clone, Copy)]
 pub struct Isr(pub u32);
 
 impl Isr {
@@ -424,7 +424,7 @@ impl Isr {
 }
 
 // Interrupt clear register: writing 1 clears the flag of the same place in ISR.
-#[derive(Drop)]
+#[derive(Clone, Copy)]
 pub struct Icr(pub u32);
 
 impl Icr {
@@ -464,7 +464,7 @@ impl Icr {
 }
 
 // Receive data register.
-#[derive(Drop)]
+#[derive(Clone, Copy)]
 pub struct Rxdr(pub u32);
 
 impl Rxdr {
@@ -480,7 +480,7 @@ impl Rxdr {
 }
 
 // Transmit data register.
-#[derive(Drop)]
+#[derive(Clone, Copy)]
 pub struct Txdr(pub u32);
 
 impl Txdr {

@@ -4,7 +4,7 @@ ghost use Rattle.saved.specs.Saved.{outcome_at};
 
 use calls::Outcome;
 
-#[derive(Drop)]
+#[derive(Clone, Copy)]
 pub enum FoundOutcome {
     AnOutcome(Outcome),
     NoOutcome,

@@ -5,7 +5,7 @@ ghost use Rattle.saved.specs.Saved.{step_at};
 
 use calls::{Modify, Step};
 
-#[derive(Drop)]
+#[derive(Clone, Copy)]
 pub enum FoundStep {
     AStep(Step),
     NoStep,

@@ -7,10 +7,10 @@ ghost use Rattle.timing.specs.Timingr.{raw_of, pack_of, unpack_of};
 use registers::Timingr;
 
 // A TIMINGR word, kept apart from plain numbers.
-#[derive(Drop)]
+#[derive(Clone, Copy)]
 pub struct RawTimingr(pub u32);
 
-#[derive(Drop)]
+#[derive(Clone, Copy)]
 pub struct I2cTiming {
     pub presc: u8,
     pub scldel: u8,
@@ -19,7 +19,7 @@ pub struct I2cTiming {
     pub scll: u8,
 }
 
-#[derive(Drop)]
+#[derive(Clone, Copy)]
 pub enum TimingRefusal {
     NoSpeed,
     ClockOver,
@@ -50,13 +50,13 @@ impl TimingRefusal {
     }
 }
 
-#[derive(Drop)]
+#[derive(Clone, Copy)]
 pub enum Packed {
     Raw(RawTimingr),
     Refused(TimingRefusal),
 }
 
-#[derive(Drop)]
+#[derive(Clone, Copy)]
 pub enum Timed {
     Timing(I2cTiming),
     Refused(TimingRefusal),
@@ -108,14 +108,14 @@ impl RawTimingr {
 }
 
 // How SCLL and SCLH share a cycle: equally, or with the low part twice the high one.
-#[derive(Drop)]
+#[derive(Clone, Copy)]
 pub enum Shape {
     Equal,
     Double,
 }
 
 // A row of a table of speed bands: the highest frequency, the least clock, d, the divisors of the two delays.
-#[derive(Drop)]
+#[derive(Clone, Copy)]
 pub struct Band {
     pub upper: u32,
     pub least: u32,

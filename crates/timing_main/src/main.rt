@@ -16,13 +16,13 @@ const LINE: usize = 256;
 
 // A line as far as it has come: its first bytes, and its length, where LINE + 1 stands for any
 // length above LINE.
-#[derive(Drop)]
+#[derive(Clone, Copy)]
 struct Line {
     bytes: [u8; LINE],
     len: usize,
 }
 
-#[derive(Drop)]
+#[derive(Clone, Copy)]
 enum Pair {
     Numbers(u32, u32),
     NotNumbers,

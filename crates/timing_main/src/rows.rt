@@ -15,7 +15,7 @@ const ROW: usize = 4 * WORDS;
 pub const TABLE: usize = 16 * ROW;
 
 // What is wrong with a line: how many words it has, the word of a column, counted from 0, or its row as the next of the table.
-#[derive(Drop)]
+#[derive(Clone, Copy)]
 enum Fault {
     WordCount,
     Word(usize),
@@ -24,7 +24,7 @@ enum Fault {
 }
 
 // The size of the table after a line, in bytes.
-#[derive(Drop)]
+#[derive(Clone, Copy)]
 enum Taken {
     Size(usize),
     Wrong(Fault),

@@ -4,7 +4,7 @@ ghost use Rattle.std.specs.Prelude.{◌≡◌, replicate};
 ghost use Rattle.window.specs.Window.{laid, start_of, full, put_byte, emit_of};
 
 // Where the text stands: how many of its bytes are still to be left out, and how many were written.
-#[derive(Drop)]
+#[derive(Clone, Copy)]
 pub struct Cursor {
     pub skip: usize,
     pub at: usize,

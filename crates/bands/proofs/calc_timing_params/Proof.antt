@@ -15,8 +15,8 @@ calc_timing_params_spec =
     tie.close
     (tie.spec
     (λ c κs. search rules)
-    (λ c κs. subst⁻¹ Sound c.band-of.ensures (five_sound _ (omega arith)))
+    (λ c κs. subst⁻¹ Sound c.band_of.ensures (five_sound _ (omega arith)))
     (λ c.
     let a = c.before.before.args in
-    c.by-found.ensures ∙ ap (λ (b : Band). by_found a.clock a.frequency (Row b)) c.before.band-of.ensures
+    c.by_found.ensures ∙ ap (λ (b : Band). by_found a.clock a.frequency (Row b)) c.before.band_of.ensures
     ∙ by_five a.clock a.frequency))

@@ -14,9 +14,9 @@ equal_spec =
     (tie.spec
     (λ c κs. search rules)
     (λ c. search rules)
-    (λ c. omega (arith, least_steps c.capped.ensures.some c.capped.ensures.few))
+    (λ c. omega (arith, least_steps c.capped-p.ensures.some c.capped-p.ensures.few))
     (λ c. search (rules, high_over))
     (λ c. search rules)
     (λ c. search rules)
     (λ c κs. search rules)
-    (λ c. let u = c.before.before.capped.ensures in c.settle.ensures ∙ all_fit Equal _ _ _ _ u.is u.most (omega arith) (omega arith)))
+    (λ c. let u = c.before.before.capped-p.ensures in c.settle.ensures ∙ all_fit Equal _ _ _ _ u.is u.most (omega arith) (omega arith)))

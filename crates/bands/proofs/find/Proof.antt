@@ -10,11 +10,11 @@ use Rattle.bands.proofs.Tables.{finds}
 use Rattle.bands.proofs.find.Statement.{statement}
 use Rattle.bands.proofs.find.Tie as tie
 
-abbrev invariant-loop : tie.invariant-loop
+abbrev invariant-loop : tie.invariant-loop-rest
 invariant-loop frequency table rest₀ rest =
     band_for frequency (bands_from (length rest / 24) rest) ≡ band_for frequency (bands_from (length table / 24) table)
 
-abbrev decreases-loop : tie.decreases-loop
+abbrev decreases-loop : tie.decreases-loop-rest
 decreases-loop frequency table rest₀ rest = length rest
 
 pub find_spec : {M : Type 1} → statement M

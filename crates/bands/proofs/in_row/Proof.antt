@@ -15,5 +15,5 @@ in_row_spec =
     (λ c κs. search rules)
     (λ c. search rules)
     (λ c κs. search rules)
-    (λ c. search (tests, c.before.enum_told.given.1, c.equal.ensures))
-    (λ c. search (tests, c.before.enum-told2.given.1, c.double.ensures)))
+    (λ c. search (tests, c.before.enum_told-1.given.1, c.equal.ensures))
+    (λ c. search (tests, c.before.enum_told-in-Double-1.given.1, c.double.ensures)))

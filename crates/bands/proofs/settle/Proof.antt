@@ -14,4 +14,4 @@ settle_spec =
     (λ c. search rules)
     (λ c. search (rules, tests))
     (λ c κs. search rules)
-    (λ c. search (tests, c.fields-of.ensures)))
+    (λ c. search (tests, c.fields_of.ensures)))

@@ -10,10 +10,10 @@ use Rattle.bands.proofs.Tables.{rows}
 use Rattle.bands.proofs.stand_above.Statement.{statement}
 use Rattle.bands.proofs.stand_above.Tie as tie
 
-abbrev invariant-loop : tie.invariant-loop
+abbrev invariant-loop : tie.invariant-loop-rest
 invariant-loop before all last₀ rest₀ last rest = rows_stand last (length rest / 24) rest ≡ rows_stand before (length all / 24) all
 
-abbrev decreases-loop : tie.decreases-loop
+abbrev decreases-loop : tie.decreases-loop-rest
 decreases-loop before all last₀ rest₀ last rest = length rest
 
 pub stand_above_spec : {M : Type 1} → statement M

@@ -13,4 +13,4 @@ stands_spec =
     (λ c. search (rules, no_shape))
     (λ c κs. search rules)
     (λ c κs. search rules)
-    (λ c. shape_then _ _ c.before.before.before.get.ensures _ _ (omega arith) c.before.first.ensures c.is-sound.ensures))
+    (λ c. shape_then _ _ c.before.before.before.get-shape.ensures _ _ (omega arith) c.before.first.ensures c.is_sound.ensures))

@@ -10,11 +10,11 @@ use Rattle.window.proofs.Laid.{all_put, next_put}
 use Rattle.window.proofs.put_all.Statement.{statement}
 use Rattle.window.proofs.put_all.Tie as tie
 
-abbrev invariant-loop : tie.invariant-loop
+abbrev invariant-loop : tie.invariant-loop-i
 invariant-loop text out₀ q₀ i₀ i-end out q i =
     (i ≤ length text) × (length out ≡ length out₀) × (emit_of (drop i text) (laid q out) ≡ emit_of text (laid q₀ out₀))
 
-abbrev decreases-loop : tie.decreases-loop
+abbrev decreases-loop : tie.decreases-loop-i
 decreases-loop text out₀ q₀ i₀ i-end out q i = length text - i
 
 pub put_all_spec : {M : Type 1} → statement M

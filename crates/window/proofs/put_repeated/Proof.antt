@@ -8,11 +8,11 @@ use Rattle.window.proofs.Laid.{all_repeated, once_more, rest_left_out}
 use Rattle.window.proofs.put_repeated.Statement.{statement}
 use Rattle.window.proofs.put_repeated.Tie as tie
 
-abbrev invariant-loop : tie.invariant-loop
+abbrev invariant-loop : tie.invariant-loop-left
 invariant-loop b n out₀ q₀ left₀ out q left =
     (length out ≡ length out₀) × (emit_of (replicate left b) (laid q out) ≡ emit_of (replicate n b) (laid q₀ out₀))
 
-abbrev decreases-loop : tie.decreases-loop
+abbrev decreases-loop : tie.decreases-loop-left
 decreases-loop b n out₀ q₀ left₀ out q left = left
 
 pub put_repeated_spec : {M : Type 1} → statement M
