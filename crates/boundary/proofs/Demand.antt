@@ -271,9 +271,9 @@ module _ (c : Call) (a o : List ℕ) (n : ℕ) (ok : check_of (description_of a)
       let r : saved_in s ≡ t = ap saved_in e ∙ read_written t w in
       record { size = z; bytes = e ∙ sym (ap saved_bytes r); accepted = rw r h; of_words = rw r w }
 
-  goes_on_holds : (C : BoundaryAdvance) → C.description ≡ a → C.operations ≡ o → T (not (says_refused C)) → Good C.saved C.buffer →
+  goes_on : (C : BoundaryAdvance) → C.description ≡ a → C.operations ≡ o → T (not (says_refused C)) → Good C.saved C.buffer →
       Exact C × Good C.saved_left C.buffer_left
-  goes_on_holds C e f r g =
+  goes_on C e f r g =
       let k : ℕ = length C.log / 8 in
       let s : SavedCall = saved_in C.saved in
       let l : List ℕ = words_in C.answers in
@@ -351,7 +351,7 @@ module _ (B : BoundaryBegin) (Cs : List BoundaryAdvance) (after : BytesAfter B C
       let q : Request = request_of c d ops size in
       let w = begin_words q in
       let F = followed B.description B.operations (Good c B.description B.operations size e)
-      (goes_on_holds c B.description B.operations size e) Cs B.saved_left B.buffer
+      (goes_on c B.description B.operations size e) Cs B.saved_left B.buffer
       (good c B.description B.operations size e (begin_of q) B.saved_left B.buffer t (accepted_begin q) w refl) after in
       let u : saved_in B.saved_left ≡ (begun_of d ops size).saved = ap saved_in t ∙ read_written (begin_of q) w ∙ sym (begun_saved d ops size c e) in
       let D : Demand3 (Accepted c) d ops B.buffer As = rw e at (demand_3 d ops B.buffer As (rw u at F.follows)) in

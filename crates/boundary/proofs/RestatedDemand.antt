@@ -208,13 +208,13 @@ module _ (B : BeginCall) (Cs : List AdvanceCall) (z : B.gave ≡ 0)
   none_made_up = ran.kept.bytes_out.no_zeros
 
   received_in_order : bytes_at buffer (read_places q) ≡ taken_in log ++ drop (length (taken_in log)) (bytes_at begun (read_places q))
-  received_in_order = rw (← same_buffer Cs begun) ran.kept.bytes_in_holds.in_order
+  received_in_order = rw (← same_buffer Cs begun) ran.kept.bytes_in.in_order
 
   others_kept : (i : ℕ) → T (not (any_of (eqb i) (read_places q))) → get_or buffer i 0 ≡ get_or begun i 0
-  others_kept i h = rw (← same_buffer Cs begun) (ran.kept.bytes_in_holds.others i h)
+  others_kept i h = rw (← same_buffer Cs begun) (ran.kept.bytes_in.others i h)
 
   as_long : length buffer ≡ length begun
-  as_long = rw (← same_buffer Cs begun) ran.kept.bytes_in_holds.same_length
+  as_long = rw (← same_buffer Cs begun) ran.kept.bytes_in.same_length
 
   counted : saved.accesses ≡ min (length log) 4294967295
   counted = rw (← same_left, ran.kept.one_run.count) ran.kept.accesses
@@ -242,7 +242,7 @@ module _ (B : BeginCall) (Cs : List AdvanceCall) (z : B.gave ≡ 0)
     all_sent t = ran.kept.bytes_out.done t n ended_as
 
     all_received : T (transaction ran.call) → bytes_at buffer (read_places q) ≡ taken_in log
-    all_received t = rw (← same_buffer Cs begun) (ran.kept.bytes_in_holds.done t n ended_as)
+    all_received t = rw (← same_buffer Cs begun) (ran.kept.bytes_in.done t n ended_as)
 
     count_received : T (receives ran.call) → n ≡ length (taken_in log)
     count_received = (ran.kept.count n ended_as).received

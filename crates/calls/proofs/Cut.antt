@@ -72,7 +72,7 @@ pub data RunCame (q : Request) (n : ℕ) (l : List ℕ) (R : Run) : Type 0 where
 -- what an advance R from s is to the uncut run: over the answers that it used and then `rest`, to as many accesses and m
 -- more, that is the advance and then the run over `rest`
 pub record Part (q : Request) (n : ℕ) (s : SavedCall) (b l : List ℕ) (R : Run) : Type 0 where
-  pub goes_on_holds : (m : ℕ) (rest : List ℕ) →
+  pub goes_on : (m : ℕ) (rest : List ℕ) →
       uncut_of q (length R.entries + m) s b (take R.used l ++ rest) ≡ before R.entries (uncut_of q m R.saved R.buffer rest)
   pub answers : answers_in R.entries ≡ take R.used l
   pub size : length R.buffer ≡ length b
@@ -101,7 +101,7 @@ ended_nothing q b s =
 
 module _ (q : Request) where
   nothing : (n : ℕ) (r : Report) (s : SavedCall) (b l : List ℕ) → RunCame q n l (stops r s b) → Part q n s b l (stops r s b)
-  nothing n r s b l c = record { goes_on_holds = λ m rest. rw zero-add; answers = refl; size = refl; accepted = λ h. h; came = c }
+  nothing n r s b l c = record { goes_on = λ m rest. rw zero-add; answers = refl; size = refl; accepted = λ h. h; came = c }
 
   module _ (n : ℕ) (ih : (s : SavedCall) (b l : List ℕ) → Part q n s b l (advance_from q n s b l)) (s : SavedCall) (b : List ℕ) where
     waits : (r : Register) (x : Access) → access_of q b s ≡ x → next_of x ≡ next.Read r → T (not (is_nothing x)) →
@@ -116,7 +116,7 @@ module _ (q : Request) where
     turn l (Write r v) e =
         let p = ih (after_of q s 0) b l in
         record {
-          goes_on_holds = λ m rest. rw (suc-add, e) (ap (first (write_entry r v)) (p.goes_on m rest));
+          goes_on = λ m rest. rw (suc-add, e) (ap (first (write_entry r v)) (p.goes_on m rest));
           answers = rw (write_above r) p.answers;
           size = p.size;
           accepted = λ h. p.accepted (accepted_after q s 0 h);
@@ -126,7 +126,7 @@ module _ (q : Request) where
     turn (a ∷ l) (Read r) e =
         let p = ih (after_of q s a) b l in
         record {
-          goes_on_holds = λ m rest. rw (suc-add, e) (ap (first (read_entry r a)) (p.goes_on m rest));
+          goes_on = λ m rest. rw (suc-add, e) (ap (first (read_entry r a)) (p.goes_on m rest));
           answers = rw (read_below r) (ap (◌∷◌ a) p.answers);
           size = p.size;
           accepted = λ h. p.accepted (accepted_after q s a h);
@@ -136,7 +136,7 @@ module _ (q : Request) where
     turn (a ∷ l) (Take i) e =
         let p = ih (after_of q s a) (set b i (byte_of a)) l in
         record {
-          goes_on_holds = λ m rest. rw (suc-add, e) (ap (first (read_entry Rxdr a)) (p.goes_on m rest));
+          goes_on = λ m rest. rw (suc-add, e) (ap (first (read_entry Rxdr a)) (p.goes_on m rest));
           answers = ap (◌∷◌ a) p.answers;
           size = p.size ∙ length-set b i (byte_of a);
           accepted = λ h. p.accepted (accepted_after q s a h);

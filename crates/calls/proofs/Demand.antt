@@ -21,7 +21,7 @@ use Rattle.calls.proofs.Counts.{done_count, carries}
 use Rattle.calls.proofs.Cut.{cut_anywhere}
 use Rattle.calls.proofs.Events.{events_named}
 use Rattle.calls.proofs.Fit.{accepted_fit}
-use Rattle.calls.proofs.Moved.{bytes_out, bytes_in_holds}
+use Rattle.calls.proofs.Moved.{bytes_out, bytes_in}
 
 -- what every uncut run is, the advances' run is
 of_run : (q : Request) (b : List ℕ) (As : List Advance) (r : OneRun q b As) (P : Uncut → Type 0)
@@ -35,7 +35,7 @@ kept c d ops b As e r =
     record {
       one_run = r;
       bytes_out = of_run q b As r (BytesOut q b) (λ k l. bytes_out q k b l refl);
-      bytes_in_holds = of_run q b As r (BytesIn q b) (λ k l. bytes_in_holds q k b l refl (accepted_fit c d ops (length b) e).sum);
+      bytes_in = of_run q b As r (BytesIn q b) (λ k l. bytes_in q k b l refl (accepted_fit c d ops (length b) e).sum);
       count = of_run q b As r (λ U. (n : ℕ) → EndedAs (Done n) U → Count q b U n) (λ k l n h. done_count q k b l n refl h);
       carried = of_run q b As r (Carried q b) (λ k l. carries q k b l refl);
       events = of_run q b As r (Events q) (λ k l. events_named q k b l);

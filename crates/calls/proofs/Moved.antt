@@ -100,8 +100,8 @@ module _ (q : Request) (k : ℕ) (b l : List ℕ) (z : q.size ≡ length b) wher
   in_then_rest : length (taken_in U.log) + length (ahead_of true q U.saved) ≡ length (read_places q)
   in_then_rest = moves.count ∙ ap length (places q true)
 
-  pub bytes_in_holds : (T (transaction q.call) → total q.operations ≡ q.size) → BytesIn q b U
-  bytes_in_holds t = record {
+  pub bytes_in : (T (transaction q.call) → total q.operations ≡ q.size) → BytesIn q b U
+  bytes_in t = record {
     in_order = stored;
     others = λ i h. rw buffer-is (store_other b (read_places q) (taken_in U.log) i h);
     same_length = rw buffer-is (store_length b (read_places q) (taken_in U.log));

@@ -111,12 +111,12 @@ module _ {Out : Type 0} (put : ℕ → List ℕ → Out → Out) (d : Descriptio
           came ∙ ap (add_run put F) (sym e) ∙ whole
 
       -- and after a full one the rest is left, if entries put after entries are put at once, as far as the places go
-      pub goes_on_holds : ((es fs : List Entry) → length es + length fs ≤ n →
+      pub goes_on : ((es fs : List Entry) → length es + length fs ≤ n →
           put (F.advanced.written + length es) (words_of fs) (put F.advanced.written (words_of es) F.out)
           ≡ put F.advanced.written (words_of es ++ words_of fs) F.out)
           → is_full G.advanced.report ≡ true → (m : ℕ) → m ≡ n - k → rest_from put d ops l m G ≡ W
-      goes_on_holds law f zero z = came ∙ ap (λ (j : ℕ). go_on put d ops l j F) (let e : k ≡ n = omega arith in e) ∙ whole
-      goes_on_holds law f (suc m) z =
+      goes_on law f zero z = came ∙ ap (λ (j : ℕ). go_on put d ops l j F) (let e : k ≡ n = omega arith in e) ∙ whole
+      goes_on law f (suc m) z =
           let P : Run = piece k in
           let g : is_full P.report ≡ true = rw came at f in
           let S : Run = run_of d ops (suc m) P.saved P.buffer (drop (F.advanced.used + P.used) l) in

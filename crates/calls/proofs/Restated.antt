@@ -247,7 +247,7 @@ module _ (c : Call) (d : Description) (ops b : List ℕ) (As : List Advance) (s'
   in_is = received_is kept.one_run.log ∙ ap received (sym (log_is []))
 
   pub same_length : length b' ≡ length b
-  same_length = ap length (sym buffer-is) ∙ kept.bytes_in_holds.same_length
+  same_length = ap length (sym buffer-is) ∙ kept.bytes_in.same_length
 
   fill : bytes_at b (read_places q) ≡ to_fill c ops b
   fill = fill_is q b refl fits
@@ -257,15 +257,15 @@ module _ (c : Call) (d : Description) (ops b : List ℕ) (As : List Advance) (s'
 
   -- What is to be filled holds the bytes received, in order, then what stood there.
   pub received_in_order : to_fill c ops b' ≡ received log ++ drop (length (received log)) (to_fill c ops b)
-  received_in_order = sym fill' ∙ kept.bytes_in_holds.in_order ∙ rw (in_is, fill)
+  received_in_order = sym fill' ∙ kept.bytes_in.in_order ∙ rw (in_is, fill)
 
   -- No other byte changes.
   pub others_kept : to_keep c ops b' ≡ to_keep c ops b
-  others_kept = keep-is q b b' refl same_length fits (λ i h. rw (← buffer-is) (kept.bytes_in_holds.others i h))
+  others_kept = keep-is q b b' refl same_length fits (λ i h. rw (← buffer-is) (kept.bytes_in.others i h))
 
   -- A transaction that is done has filled all of them.
   pub received_all : T (is_transaction c) → s'.step ≡ Ended → (n : ℕ) → s'.outcome ≡ Done n → to_fill c ops b' ≡ received log
-  received_all t e n o = sym fill' ∙ kept.bytes_in_holds.done (rw (transaction-is c) t) n (ended_as e n o) ∙ in_is
+  received_all t e n o = sym fill' ∙ kept.bytes_in.done (rw (transaction-is c) t) n (ended_as e n o) ∙ in_is
 
   -- ---- what `done` counts: of 9, 11, 25 and 27 the bytes received
   pub count_received : T (is_receiver c) → s'.step ≡ Ended → (n : ℕ) → s'.outcome ≡ Done n → n ≡ length (received log)

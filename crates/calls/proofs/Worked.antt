@@ -5,7 +5,7 @@ use mathlib.Core.Path.{◌≡◌, refl}
 use mathlib.Core.List.{List, [], ◌∷◌}
 use Rattle.registers.specs.declared.Register.TheVariants.{Isr}
 use Rattle.fields.specs.Field.{bits_at, with_bits, get_of, put_of}
-use Rattle.calls.specs.Advances.{Advance, Follows, none, but, then, made, joined, given, buffer_after, saved_after}
+use Rattle.calls.specs.Advances.{Advance, Meets, Follows, none, but, then, made, joined, given, buffer_after, saved_after}
 use Rattle.calls.specs.Calls.{Request, is_call, is_kind, manual}
 use Rattle.calls.specs.Pieces.{pieces_for}
 use Rattle.calls.specs.Refusals.{request_of, lookup_of, verdict_of, check_of, group_taken, accepts}
@@ -108,14 +108,34 @@ end = record {
 abbrev pub advances : List Advance
 advances = cut ∷ other_buffer ∷ other_call ∷ cut_again ∷ end ∷ []
 
-pub worked : Follows d ops advances (begun_of d ops 2).saved b
+-- Each advance by itself, so that no more than one is computed at a time.
+cut_meets : Meets cut (begun_of d ops 2).saved
 unfolding get_of bits_at put_of with_bits is_call is_kind manual pieces_for lookup_of verdict_of check_of group_taken accepts begun_of advance_from run_of cr2_of alter_of access_of after_of begin_of
+cut_meets = refl
+
+other_buffer_meets : Meets other_buffer cut.result.saved
+unfolding get_of bits_at put_of with_bits is_call is_kind manual pieces_for lookup_of verdict_of check_of group_taken accepts begun_of advance_from run_of cr2_of alter_of access_of after_of begin_of
+other_buffer_meets = refl
+
+other_call_meets : Meets other_call other_buffer.result.saved
+unfolding get_of bits_at put_of with_bits is_call is_kind manual pieces_for lookup_of verdict_of check_of group_taken accepts begun_of advance_from run_of cr2_of alter_of access_of after_of begin_of
+other_call_meets = refl
+
+cut_again_meets : Meets cut_again other_call.result.saved
+unfolding get_of bits_at put_of with_bits is_call is_kind manual pieces_for lookup_of verdict_of check_of group_taken accepts begun_of advance_from run_of cr2_of alter_of access_of after_of begin_of
+cut_again_meets = refl
+
+end_meets : Meets end cut_again.result.saved
+unfolding get_of bits_at put_of with_bits is_call is_kind manual pieces_for lookup_of verdict_of check_of group_taken accepts begun_of advance_from run_of cr2_of alter_of access_of after_of begin_of
+end_meets = refl
+
+pub worked : Follows d ops advances (begun_of d ops 2).saved b
 worked =
-    then refl refl refl refl tt
-    (but refl tt
-    (but refl tt
-    (then refl refl refl refl tt
-    (then refl refl refl refl tt none))))
+    then {A = cut} cut_meets refl refl refl tt
+    (but {A = other_buffer} other_buffer_meets tt
+    (but {A = other_call} other_call_meets tt
+    (then {A = cut_again} cut_again_meets refl refl refl tt
+    (then {A = end} end_meets refl refl refl tt none))))
 
 -- the whole run, over the answers that they used
 abbrev whole : Uncut

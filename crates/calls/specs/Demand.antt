@@ -20,7 +20,7 @@ left q b As log = record { saved = saved_after As (begin_of q); buffer = buffer_
 pub record Kept (q : Request) (b : List ℕ) (As : List Advance) : Type 0 where
   pub one_run : OneRun q b As
   pub bytes_out : BytesOut q b (left q b As one_run.log)
-  pub bytes_in_holds : BytesIn q b (left q b As one_run.log)
+  pub bytes_in : BytesIn q b (left q b As one_run.log)
   pub count : (n : ℕ) → EndedAs (Done n) (left q b As one_run.log) → Count q b (left q b As one_run.log) n
   pub carried : Carried q b (left q b As one_run.log)
   pub events : Events q (left q b As one_run.log)

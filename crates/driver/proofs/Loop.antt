@@ -191,9 +191,9 @@ module _ (q : Request) (l : List ℕ) (p : ℕ) (F : Final) (b₀ log₀ b log :
         (λ n. let x : false ≡ true = ap (λ (y : Access). (made_by s b l u log (2 * w) y).going) (sym (no_access q b s n)) ∙ goes in absurd (subst⁻¹ T x tt))
         (λ n. subst⁻¹ (Known q) next (known_after q s M.answer n g.known))
 
-    pub goes_on_holds : w < p → t.going ≡ true → length b' ≡ length b → length log' ≡ length log → (v' : View) → v' ≡ view_of q t.saved →
+    pub goes_on : w < p → t.going ≡ true → length b' ≡ length b → length log' ≡ length log → (v' : View) → v' ≡ view_of q t.saved →
         Going q l p F b₀ log₀ b' log' t.saved v' t.used (w + 1)
-    goes_on_holds h m x y v' e =
+    goes_on h m x y v' e =
         record {
           places = rw y g.places;
           buffer_kept = x ∙ g.buffer_kept;
@@ -213,7 +213,7 @@ module _ (q : Request) (l : List ℕ) (p : ℕ) (F : Final) (b₀ log₀ b log :
 
     pub goes_quick : w < p → k.made ≡ true → length b' ≡ length b → length log' ≡ length log →
         Going q l p F b₀ log₀ b' log' (moved_by s k) v k.used (w + 1)
-    goes_quick h m x y = goes_on_holds (quick_turned s k) b' log' (by_made true m) h m x y v g.view
+    goes_quick h m x y = goes_on (quick_turned s k) b' log' (by_made true m) h m x y v g.view
 
     -- passed on, with nothing touched
     pub stays_quick : k.made ≡ false → Going q l p F b₀ log₀ b' log' s v u w

@@ -344,9 +344,9 @@ set_below (y ∷ b) zero x h g = (g, h.1)
 set_below (y ∷ b) (suc i) x h g = (h.0, set_below b i x h.1 g)
 
 module _ (q : Request) (small : SmallFor q) where
-  goes_on_holds : (s : SavedCall) (b : List ℕ) (a : ℕ) (b' : List ℕ) → InRange q s b → T (made (access_of q b s)) → a < word → Below 256 b' →
+  goes_on : (s : SavedCall) (b : List ℕ) (a : ℕ) (b' : List ℕ) → InRange q s b → T (made (access_of q b s)) → a < word → Below 256 b' →
       InRange q (after_of q s a) b'
-  goes_on_holds s b a b' i h g k =
+  goes_on s b a b' i h g k =
       let n : T (not (same_step s.step Ended)) = both (same_step s.step Ended) (λ e. absurd (rw (no_access q b s e) at h)) (λ n. n) in
       record { accepted = accepted_after q s a i.accepted; of_words = words_after q small s a i.accepted n i.of_words g; bytes = k }
 
@@ -358,17 +358,17 @@ module _ (q : Request) (small : SmallFor q) where
     turn : (l : List ℕ) (x : Access) → access_of q b s ≡ x → Below word l → RunInRange q (turn_of (advance_from q n) q s b l x)
     turn l Nothing e k = record { after = i; entries = tt }
     turn l (Write r v) e k =
-        let p = ih (after_of q s 0) b l (goes_on_holds s b 0 b i (rw e tt) no_word i.bytes) k in
+        let p = ih (after_of q s 0) b l (goes_on s b 0 b i (rw e tt) no_word i.bytes) k in
         let v : v < word = rw e at (written s b i) in
         record { after = p.after; entries = (omega (arith, offset_below r), (v, p.entries)) }
     turn [] (Read r) e k = record { after = i; entries = tt }
     turn (a ∷ l) (Read r) e k =
-        let p = ih (after_of q s a) b l (goes_on_holds s b a b i (rw e tt) k.0 i.bytes) k.1 in
+        let p = ih (after_of q s a) b l (goes_on s b a b i (rw e tt) k.0 i.bytes) k.1 in
         record { after = p.after; entries = (omega (arith, offset_below r), (k.0, p.entries)) }
     turn [] (Take j) e k = record { after = i; entries = tt }
     turn (a ∷ l) (Take j) e k =
         let p = ih (after_of q s a) (set b j (byte_of a)) l
-        (goes_on_holds s b a _ i (rw e tt) k.0 (set_below b j (byte_of a) i.bytes (omega arith))) k.1 in
+        (goes_on s b a _ i (rw e tt) k.0 (set_below b j (byte_of a) i.bytes (omega arith))) k.1 in
         record { after = p.after; entries = (omega (arith, offset_below Rxdr), (k.0, p.entries)) }
 
   pub run_in_range : (n : ℕ) (s : SavedCall) (b l : List ℕ) → InRange q s b → Below word l → RunInRange q (advance_from q n s b l)

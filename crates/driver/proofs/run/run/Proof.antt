@@ -9,7 +9,7 @@ use borrow.Author.Tests.{ltb-true}
 use Rattle.calls.specs.Calls.{Request}
 use Rattle.calls.specs.Refusals.{request_of}
 use Rattle.driver.proofs.Accepts.{known_small}
-use Rattle.driver.proofs.Loop.{to_come, Going, tested, after, whole, ends, kept, goes_on_holds, goes_quick, stays_quick, full}
+use Rattle.driver.proofs.Loop.{to_come, Going, tested, after, whole, ends, kept, goes_on, goes_quick, stays_quick, full}
 use Rattle.driver.specs.Views.{cursor_at}
 use Rattle.driver.specs.declared.view.Cursor.{Cursor}
 use Rattle.driver.proofs.run.run.Statement.{statement}
@@ -98,7 +98,7 @@ run_spec =
     let a = c.before.before.before.before.before.before.before.before.before.before.before.before.before.before.before.before.before.before.before.args in
     let j = c.before.before.before.before.before.before.before.before.before.before.before.loop2 in
     let t = c.before.before.before.before.before.before.before.turn2 in
-    let g = goes_on_holds (request_of a.c a.d a.ops.now a.n) _ _ _ _ _ _ _ _ _ _ _ j.invariant.0 t.result _ _ t.ensures j.invariant.1 c.before.before.if2.true t.auto.1.1.1.1.0 t.auto.1.1.1.1.1.1.1.0 _ (ap (λ (x : Cursor). x.view) c.cursor-after.ensures) in
+    let g = goes_on (request_of a.c a.d a.ops.now a.n) _ _ _ _ _ _ _ _ _ _ _ j.invariant.0 t.result _ _ t.ensures j.invariant.1 c.before.before.if2.true t.auto.1.1.1.1.0 t.auto.1.1.1.1.1.1.1.0 _ (ap (λ (x : Cursor). x.view) c.cursor-after.ensures) in
     (after g c.before.before.before.before.before.before.before.before.before.before.before.before.before.before.loop.invariant.0, omega (arith, j.invariant.1), c.cursor-after.ensures))
     (λ c. search rules)
     (λ c. search rules)
