@@ -120,6 +120,7 @@ pub fn moves_bytes(c: Call) -> bool
     is_receiver(c) | is_transmitter(c)
 }
 
+#[tactic(auto, unfolding(calls::specs::Calls::is_call, calls::specs::Calls::is_kind))]
 pub fn is_transaction(c: Call) -> bool
     ensures { result ≡ transaction c }
 {
@@ -130,6 +131,7 @@ pub fn is_transaction(c: Call) -> bool
 }
 
 // The kinds, each in either acknowledge mode. A match on the call costs one test of its tag; its number costs a table.
+#[tactic(auto, unfolding(calls::specs::Calls::is_call, calls::specs::Calls::is_kind))]
 pub fn is_wait_for_event(c: Call) -> bool
     ensures { result ≡ is_kind c WaitForEvent }
 {
@@ -139,6 +141,7 @@ pub fn is_wait_for_event(c: Call) -> bool
     }
 }
 
+#[tactic(auto, unfolding(calls::specs::Calls::is_call, calls::specs::Calls::is_kind))]
 pub fn is_wait_for_stop(c: Call) -> bool
     ensures { result ≡ is_kind c WaitForStop }
 {
@@ -148,6 +151,7 @@ pub fn is_wait_for_stop(c: Call) -> bool
     }
 }
 
+#[tactic(auto, unfolding(calls::specs::Calls::is_call, calls::specs::Calls::is_kind))]
 pub fn is_receiver(c: Call) -> bool
     ensures { result ≡ receives c }
 {
@@ -157,6 +161,7 @@ pub fn is_receiver(c: Call) -> bool
     }
 }
 
+#[tactic(auto, unfolding(calls::specs::Calls::is_call, calls::specs::Calls::is_kind))]
 pub fn is_transmitter(c: Call) -> bool
     ensures { result ≡ transmits c }
 {
@@ -166,6 +171,7 @@ pub fn is_transmitter(c: Call) -> bool
     }
 }
 
+#[tactic(auto, unfolding(calls::specs::Calls::is_call, calls::specs::Calls::is_kind))]
 pub fn is_eventful(c: Call) -> bool
     ensures { result ≡ eventful c }
 {
@@ -187,6 +193,7 @@ fn is_manual_ack(a: Ack) -> bool
     }
 }
 
+#[tactic(auto, unfolding(calls::specs::Calls::manual))]
 pub fn is_manual(c: Call) -> bool
     ensures { result ≡ manual c }
 {

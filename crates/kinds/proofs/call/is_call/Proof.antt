@@ -11,4 +11,4 @@ is_call_spec =
     (tie.spec
     (λ c κs. search rules)
     (λ c κs. search rules)
-    (λ c. rw (c.before.number.ensures, c.number2.ensures)))
+    (λ c. rw (c.before.number.ensures, c.number-2.ensures)))

@@ -9,4 +9,4 @@ moves_bytes_spec =
     (tie.spec
     (λ c κs. search rules)
     (λ c κs. search rules)
-    (λ c. rw (c.before.is-receiver.ensures, c.is-transmitter.ensures)))
+    (λ c. rw (c.before.is_receiver.ensures, c.is_transmitter.ensures)))
