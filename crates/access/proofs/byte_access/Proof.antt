@@ -11,4 +11,4 @@ byte_access_spec =
     (λ c κs. search rules)
     (λ c. search (branches, c.place.ensures))
     (λ c κs. search rules)
-    (λ c. search (branches, c.byte_out_holds.ensures)))
+    (λ c. search (branches, c.byte_out.ensures)))

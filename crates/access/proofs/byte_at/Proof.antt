@@ -18,9 +18,9 @@ byte_at_spec =
     tie.close
     (tie.spec
     (λ c. search rules)
-    (λ c. omega (arith, c.shared-slice-known2.given c.before.before.before.args.i))
+    (λ c. omega (arith, c.shared_slice_known-then-i-b-1.given c.before.before.before.args.i))
     (λ c κs. search rules)
     (λ c.
-    let byte = c.before.shared-slice-known2.given c.before.before.before.before.args.i in
-    c.with-txdata.ensures ∙ whole _ (omega arith))
-    (λ c. sym (get_or-eq_default c.before.before.args.b.now 0 c.if1.false)))
+    let byte = c.before.shared_slice_known-then-i-b-1.given c.before.before.before.before.args.i in
+    c.with_txdata.ensures ∙ whole _ (omega arith))
+    (λ c. sym (get_or-eq_default c.before.before.args.b.now 0 c.if-i-b.false)))

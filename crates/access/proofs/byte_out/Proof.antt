@@ -12,5 +12,5 @@ byte_out_spec =
     (tie.spec
     (λ c κs. search rules)
     (λ c κs. search rules)
-    (λ c. yes _ _ (lt-ltb _ _ c.before.before.if1.true) (rw (← c.before.place.ensures) c.byte_at.ensures))
+    (λ c. yes _ _ (lt-ltb _ _ c.before.before.if-s-v.true) (rw (← c.before.place.ensures) c.byte_at.ensures))
     (λ c. search (branches, tests)))

@@ -6,5 +6,5 @@ pub byte_register_spec : {M : Type 1} → statement M
 byte_register_spec =
     tie.close
     (tie.spec
-    (λ c b s. rw c.if1.true)
-    (λ c b s. rw c.if1.false))
+    (λ c b s. rw c.if-v.true)
+    (λ c b s. rw c.if-v.false))

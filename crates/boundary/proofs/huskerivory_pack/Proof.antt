@@ -17,4 +17,4 @@ huskerivory_pack_spec =
     (λ c.
     let answered = c.before.before in
     c.tell.ensures ∙ answered.packed-answer.ensures
-    ∙ ap packed_answer (answered.before.pack.ensures ∙ ap pack_of answered.before.before.timing_in_holds.ensures)))
+    ∙ ap packed_answer (answered.before.pack.ensures ∙ ap pack_of answered.before.before.timing_in.ensures)))

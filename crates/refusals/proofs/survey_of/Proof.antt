@@ -8,11 +8,11 @@ use Rattle.refusals.proofs.Lists.{onward, survey-turns}
 use Rattle.refusals.proofs.survey_of.Statement.{statement}
 use Rattle.refusals.proofs.survey_of.Tie as tie
 
-abbrev invariant-loop : tie.invariant-loop
+abbrev invariant-loop : tie.invariant-loop-i
 invariant-loop ops strange₀ sum₀ i₀ i-end strange sum i =
     (i ≤ length ops) × (sum ≤ 65535 * i) × (onward strange sum (drop i ops) ≡ survey_of ops)
 
-abbrev decreases-loop : tie.decreases-loop
+abbrev decreases-loop : tie.decreases-loop-i
 decreases-loop ops strange₀ sum₀ i₀ i-end strange sum i = length ops - i
 
 pub survey_of_spec : {M : Type 1} → statement M

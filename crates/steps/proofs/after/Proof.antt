@@ -11,6 +11,6 @@ after_spec =
     tie.close
     (tie.spec
     (λ c κs. search rules)
-    (λ c κs. small_says c.before.before.args.v c.before.before.args.s (holds (told c.before.is-small.ensures c.if1.true)))
-    (λ c. yes _ _ (told c.before.before.is-small.ensures c.before.if1.true) c.after_small.ensures)
-    (λ c. no _ _ (told c.before.is-small.ensures c.if1.false) refl))
+    (λ c κs. small_says c.before.before.args.v c.before.before.args.s (holds (told c.before.is_small.ensures c.if-is_small.true)))
+    (λ c. yes _ _ (told c.before.before.is_small.ensures c.before.if-is_small.true) c.after_small.ensures)
+    (λ c. no _ _ (told c.before.is_small.ensures c.if-is_small.false) refl))

@@ -11,8 +11,8 @@ after_small_spec =
     (tie.spec
     (λ c κs. c.requires.1)
     (λ c κs. let x = c.before.args in
-    subst⁻¹ Small c.note.ensures (small_noted x.v x.s x.a x.s.step c.before.requires.1 c.before.requires.0))
+    subst⁻¹ Small c.note-n.ensures (small_noted x.v x.s x.a x.s.step c.before.requires.1 c.before.requires.0))
     (λ c κs. let x = c.before.before.args in
     let h = small_noted x.v x.s x.a x.s.step c.before.before.requires.1 c.before.before.requires.0 in
-    (subst⁻¹ Small c.before.note.ensures h).piece)
-    (λ c. rw (c.apply.ensures, c.before.effect.ensures, c.before.before.note.ensures)))
+    (subst⁻¹ Small c.before.note-n.ensures h).piece)
+    (λ c. rw (c.apply.ensures, c.before.effect.ensures, c.before.before.note-n.ensures)))

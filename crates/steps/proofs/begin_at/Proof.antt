@@ -10,4 +10,4 @@ begin_at_spec =
     (λ c κs. search rules)
     (λ c κs. search rules)
     (λ c κs. search rules)
-    (λ c. rw (c.fresh.ensures, c.before.begin-step.ensures, c.before.before.number.ensures)))
+    (λ c. rw (c.fresh.ensures, c.before.begin_step.ensures, c.before.before.number.ensures)))

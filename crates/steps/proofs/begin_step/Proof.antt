@@ -21,5 +21,5 @@ begin_step_spec =
     (λ c κs. search rules)
     (λ c. search branches depth 9)
     (λ c κs. search rules)
-    (λ c. rw (told c.before.before.before.before.before.before.before.before.before.before.before.before.before.is-resetting.ensures c.before.before.before.before.before.before.before.before.before.before.before.before.if1.false, told c.before.before.before.before.before.before.before.before.before.before.before.is_call.ensures c.before.before.before.before.before.before.before.before.before.before.if2.false, told c.before.before.before.before.before.before.before.before.before.is-listening.ensures c.before.before.before.before.before.before.before.before.if3.false, told c.before.before.before.before.before.before.before.is-call2.ensures c.before.before.before.before.before.before.if4.false, told c.before.before.before.before.before.is-call3.ensures c.before.before.before.before.if5.false, told c.before.before.before.is-eventful.ensures c.before.before.if6.false, c.before.if7.true) c.entry-step.ensures)
+    (λ c. rw (told c.before.before.before.before.before.before.before.before.before.before.before.before.before.is_resetting.ensures c.before.before.before.before.before.before.before.before.before.before.before.before.if-is_resetting.false, told c.before.before.before.before.before.before.before.before.before.before.before.is_call.ensures c.before.before.before.before.before.before.before.before.before.before.if-is_call.false, told c.before.before.before.before.before.before.before.before.before.is_listening.ensures c.before.before.before.before.before.before.before.before.if-is_listening.false, told c.before.before.before.before.before.before.before.is_call-2.ensures c.before.before.before.before.before.before.if-is_call-2.false, told c.before.before.before.before.before.is_call-3.ensures c.before.before.before.before.if-is_call-3.false, told c.before.before.before.is_eventful.ensures c.before.before.if-is_eventful.false, c.before.if-nonempty.true) c.entry_step.ensures)
     (λ c. search branches depth 9))

@@ -13,4 +13,4 @@ byte_moved_spec =
     (λ c κs. search rules)
     (λ c. search branches)
     (λ c κs. search rules)
-    (λ c. rw c.entry-step.ensures (search branches)))
+    (λ c. rw c.entry_step.ensures (search branches)))

@@ -8,4 +8,4 @@ byte_there_spec =
     tie.close
     (tie.spec
     (λ c κs. search rules)
-    (λ c. rw c.is-transmitter.ensures))
+    (λ c. rw c.is_transmitter.ensures))

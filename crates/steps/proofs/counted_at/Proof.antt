@@ -9,4 +9,4 @@ counted_at_spec =
     (tie.spec
     (λ c κs. search rules)
     (λ c κs. search rules)
-    (λ c. rw (c.before.held-byte.ensures, c.held_out.ensures)))
+    (λ c. rw (c.before.held_byte-n.ensures, c.held_out-out.ensures)))

@@ -10,4 +10,4 @@ found_at_spec =
     (λ c κs. search rules)
     (λ c κs. search rules)
     (λ c κs. search rules)
-    (λ c. rw (c.readdress.ensures, c.before.own-or.ensures, c.before.before.value.ensures)))
+    (λ c. rw (c.readdress-event.ensures, c.before.own_or.ensures, c.before.before.value.ensures)))

@@ -9,4 +9,4 @@ start_status_spec =
     (tie.spec
     (λ c κs. search rules)
     (λ c κs. search rules)
-    (λ c. rw (c.error-or.ensures, c.before.nack-or.ensures)))
+    (λ c. rw (c.error_or.ensures, c.before.nack_or.ensures)))

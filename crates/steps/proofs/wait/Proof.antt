@@ -10,4 +10,4 @@ wait_spec =
     (λ c κs. search rules)
     (λ c κs. search rules)
     (λ c κs. search rules)
-    (λ c. rw (c.error-or.ensures, c.before.wait-at.ensures, c.before.before.flag-awaited.ensures)))
+    (λ c. rw (c.error_or.ensures, c.before.wait_at.ensures, c.before.before.flag_awaited.ensures)))

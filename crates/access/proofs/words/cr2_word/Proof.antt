@@ -16,7 +16,7 @@ cr2_word_spec =
     (λ c κs. search rules)
     (λ c. search (
       branches,
-      c.with-address.ensures,
-      c.before.with-start.ensures,
-      c.before.before.before.transfer-word.ensures,
+      c.with_address.ensures,
+      c.before.with_start.ensures,
+      c.before.before.before.transfer_word-w.ensures,
     )))

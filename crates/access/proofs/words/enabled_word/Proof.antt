@@ -12,9 +12,9 @@ enabled_word_spec =
     (λ c κs. search rules)
     (λ c κs. search rules)
     (λ c. simp (
-      c.with-pe.ensures,
-      c.before.with-anfoff.ensures,
-      told c.before.before.before.is_call.ensures c.before.before.if1.true,
+      c.with_pe.ensures,
+      c.before.with_anfoff.ensures,
+      told c.before.before.before.is_call.ensures c.before.before.if-is_call.true,
     ))
     (λ c κs. search rules)
-    (λ c. simp (c.with-pe2.ensures, told c.before.before.is_call.ensures c.before.if1.false)))
+    (λ c. simp (c.with_pe-2.ensures, told c.before.before.is_call.ensures c.before.if-is_call.false)))

@@ -11,8 +11,8 @@ listen_word_spec =
     (tie.spec
     (λ c κs. search rules)
     (λ c κs. search rules)
-    (λ c. search (branches, tests, c.with-gcen.ensures, c.before.before.is_call.ensures))
+    (λ c. search (branches, tests, c.with_gcen.ensures, c.before.before.is_call-on.ensures))
     (λ c κs. search rules)
-    (λ c. search (branches, tests, c.with-oa1en.ensures, c.before.before.before.is_call.ensures))
+    (λ c. search (branches, tests, c.with_oa1en.ensures, c.before.before.before.is_call-on.ensures))
     (λ c κs. search rules)
-    (λ c. search (branches, tests, c.with-oa2en.ensures, c.before.before.before.is_call.ensures)))
+    (λ c. search (branches, tests, c.with_oa2en.ensures, c.before.before.before.is_call-on.ensures)))

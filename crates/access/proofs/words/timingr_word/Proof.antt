@@ -17,8 +17,8 @@ timingr_word_spec =
     (λ c. search (
       branches,
       c.word.ensures,
-      c.before.target-timing.ensures,
-      c.before.before.before.before.unpack.ensures,
+      c.before.target_timing.ensures,
+      c.before.before.before.before.unpack-t.ensures,
     ))
     (λ c κs. search rules)
-    (λ c. search (branches, c.word2.ensures, c.before.before.before.unpack.ensures)))
+    (λ c. search (branches, c.word-2.ensures, c.before.before.before.unpack-t.ensures)))
