@@ -79,6 +79,7 @@ fn own_word(mode: AddressMode, own: u32) -> u32
     }
 }
 
+#[tactic(auto, unfolding(calls::specs::Words::oar1_of))]
 pub fn oar1_word(config: Configuration) -> u32
     ensures { result ≡ oar1_of config }
 {
@@ -109,6 +110,7 @@ fn secondary_word(secondary: SecondaryAddress, mask: MaskBits) -> u32
     }
 }
 
+#[tactic(auto, unfolding(calls::specs::Words::oar2_of))]
 pub fn oar2_word(config: Configuration) -> u32
     ensures { result ≡ oar2_of config }
 {
@@ -174,6 +176,7 @@ fn listen_word(c: Call, kind: u32, w: u32) -> u32
 }
 
 // What a modify writes, of the word that it read.
+#[tactic(auto, unfolding(calls::specs::Words::alter_of))]
 pub fn alter(c: Call, d: Description, v: View, w: u32, m: Modify) -> u32
     ensures { result ≡ alter_of c d v w m }
 {

@@ -163,6 +163,7 @@ fn verdict(c: Call, d: Description, ops: &[u32], n: usize) -> Verdict
 }
 
 // What begin and advance both look at; n is the lent buffer's length.
+#[tactic(auto, unfolding(calls::specs::Refusals::check_of))]
 pub fn check(d: Description, ops: &[u32], n: usize) -> Verdict
     ensures { result ≡ check_of d ops.now n }
 {
