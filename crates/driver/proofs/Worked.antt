@@ -6,6 +6,7 @@ use mathlib.Core.List.{List, [], ◌∷◌, map}
 use lib.Dec.{T_not}
 use lib.ListN.{length}
 use denote.Ref.{Bor}
+use denote.MutBor.{MutBor}
 use Rattle.calls.proofs.Logic.{is_true, is_false}
 use Rattle.calls.proofs.Worked.{d, ops, b, worked}
 use Rattle.calls.specs.Advances.{Advance, Meets, refused, Follows, none, but, then}
@@ -18,6 +19,9 @@ use Rattle.driver.proofs.Demand.{BeginCall, AdvanceCall, beginning, advancing}
 -- a lent slice; where it lies does not matter
 abbrev lent : List ℕ → Bor (List ℕ)
 lent l = record { ref_ptr = (0, 0); now = l }
+
+abbrev lent_mut : List ℕ → MutBor (List ℕ)
+lent_mut l = record { ref_ptr = (0, 0); ghost_name = 0; now = l }
 
 abbrev begin_call : Description → List ℕ → List ℕ → BeginCall
 begin_call d ops b =
@@ -33,9 +37,9 @@ abbrev advance_call : (A : Advance) (s : SavedCall) → Meets A s → AdvanceCal
 advance_call A s m =
     record {
       lifetimes = ([], ([], ([], ([], tt))));
-      given = (A.words, (lent A.operations, (s, (lent A.buffer, (lent A.answers, (lent A.log, tt))))));
+      given = (A.words, (lent A.operations, (s, (lent_mut A.buffer, (lent A.answers, (lent_mut A.log, tt))))));
       gave = A.result;
-      left = (A.words, (lent A.operations, (s, (lent A.buffer_left, (lent A.answers, (lent A.log_left, tt))))));
+      left = (A.words, (lent A.operations, (s, (lent_mut A.buffer_left, (lent A.answers, (lent_mut A.log_left, tt))))));
       contract = m;
     }
 

@@ -95,6 +95,7 @@ fn has_nack_set(c: Call, nonempty: bool) -> bool
     is_call(c, Call::NackTransfer) | (is_auto_receiver(c) & nonempty)
 }
 
+#[tactic(auto, unfolding(calls::specs::Refusals::group_taken))]
 fn takes_modify(c: Call, d: Description, nonempty: bool, m: Modify) -> bool
     ensures { result ≡ group_taken c d nonempty (modify_group m) }
 {
@@ -112,6 +113,7 @@ fn takes_modify(c: Call, d: Description, nonempty: bool, m: Modify) -> bool
     }
 }
 
+#[tactic(auto, unfolding(calls::specs::Refusals::group_taken))]
 fn takes(c: Call, d: Description, nonempty: bool, t: Step) -> bool
     ensures { result ≡ group_taken c d nonempty (group_of t) }
 {

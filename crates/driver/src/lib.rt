@@ -28,6 +28,7 @@ fn begin_call(c: Call, d: Description, ops: &[u32], n: u32) -> SavedCall
 }
 
 // Begins a call. The operation list and the buffer are looked at, not kept: they are lent to each advance again.
+#[tactic(auto, unfolding(calls::specs::Run::begun_of))]
 pub fn begin(d: Description, ops: &[u32], buffer: &[u8]) -> Begun
     ensures { result ≡ begun_of d ops.now (length buffer.now) }
 {
@@ -93,6 +94,7 @@ fn advance_call(
 
 // Makes accesses until the call has ended, the log has no place left, or a read finds no answer. Each entry of the log is two
 // words: the register's offset, plus 0x100 for a write, and the value.
+#[tactic(auto, unfolding(calls::specs::Run::run_of))]
 pub fn advance(
     d: Description,
     ops: &[u32],

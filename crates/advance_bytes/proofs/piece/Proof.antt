@@ -36,7 +36,7 @@ piece_spec =
             arith,
             few a.d a.ops.now a.t a.buffer.now (drop a.t.used (words_in a.answers.now)) (take (2 * v.before.before.before.before.least.result) a.entries.now) v.advance.result _ _ v.advance.ensures,
             places_lent a.entries.now _ (length a.log.now / 8 - a.t.written) v.before.before.before.before.least.ensures,
-            start.well-formed.1.1.1.1.1.1.1.0.0,
+            start.well_formed.1.1.1.1.1.1.1.0.0,
           );
     })
     (λ c.
@@ -47,7 +47,7 @@ piece_spec =
     let v = c.before.before.before.before.before.before.before.before in
     let a = v.before.before.before.before.before.before.before.before.before.before.before.before.args in
     counted a.d a.ops.now a.t a.buffer.now (drop a.t.used (words_in a.answers.now)) (take (2 * v.before.before.before.before.least.result) a.entries.now) v.advance.result _ _ v.advance.ensures _ _ refl)
-    (λ c. let start = c.before.before.before.before.before.before.before.before.before.before.before.before.before.before.before.before.before.before.before.before.before in record { fits = omega (arith, start.requires.1, start.well-formed.1.1.1.1.1.0.0) })
+    (λ c. let start = c.before.before.before.before.before.before.before.before.before.before.before.before.before.before.before.before.before.before.before.before.before in record { fits = omega (arith, start.requires.1, start.well_formed.1.1.1.1.1.0.0) })
     (λ c κs. search rules)
     (λ c.
     let v = c.before.before.before.before.before.before.before.before.before.before.before.before.before.before.before.before in
@@ -61,7 +61,7 @@ piece_spec =
             length-drop a.t.used (words_in a.answers.now),
             in_words a.answers.now,
             start.requires.0,
-            start.well-formed.1.1.1.1.0.0,
+            start.well_formed.1.1.1.1.0.0,
           );
     })
     (λ c.
@@ -75,7 +75,7 @@ piece_spec =
             few a.d a.ops.now a.t a.buffer.now (drop a.t.used (words_in a.answers.now)) (take (2 * v.before.before.before.before.least.result) a.entries.now) v.advance.result _ _ v.advance.ensures,
             places_lent a.entries.now _ (length a.log.now / 8 - a.t.written) v.before.before.before.before.least.ensures,
             start.requires.1,
-            start.well-formed.1.1.1.1.1.0.0,
+            start.well_formed.1.1.1.1.1.0.0,
           );
     })
     (λ c. c.before.before.before.before.before.before.before.before.before.before.before.before.before.before.before.before.before.before.advance.auto.1.1.1.0)

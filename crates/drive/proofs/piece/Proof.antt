@@ -41,7 +41,7 @@ piece_spec =
     let a = v.before.before.before.before.before.before.before.before.before.before.before.before.args in
     let h = some_used a.d a.ops.now a.t.advanced a.buffer.now (take (length a.answers.now - a.t.advanced.used) (drop a.t.advanced.used a.answers.now))
     v.before.before.before.before.before.before.before.log.result v.advance.result _ _ v.advance.ensures in
-    record { fits = omega (arith, simp (length-take, length-drop) at h, v.before.before.before.before.before.before.before.before.before.before.before.before.requires.0, v.before.before.before.before.before.before.before.before.before.before.before.before.well-formed.1.1.1.1.1.0.0) })
+    record { fits = omega (arith, simp (length-take, length-drop) at h, v.before.before.before.before.before.before.before.before.before.before.before.before.requires.0, v.before.before.before.before.before.before.before.before.before.before.before.before.well_formed.1.1.1.1.1.0.0) })
     (λ c.
     let v = c.before.before.before.before.before.before.before.before.before in
     let a = v.before.before.before.before.before.before.before.before.before.before.before.before.args in

@@ -26,51 +26,51 @@ advance_call_spec =
     let a = c.before.before.before.before.before.before.before.args in
     let q : Request = request_of a.c a.d a.ops.now (length a.buffer.now) in
     let fit = accepted_fit a.c a.d a.ops.now (length a.buffer.now) c.before.before.before.before.before.before.before.requires in
-    rw (no_belonging a.c a.d a.ops.now (length a.buffer.now) a.saved fit (told c.before.before.belongs.ensures (un_not c.before.if1.true)), c.refused.ensures))
+    rw (no_belonging a.c a.d a.ops.now (length a.buffer.now) a.saved fit (told c.before.before.belongs.ensures c.before.if-not-belongs.true), c.refused.ensures))
     (λ c κs. search rules)
     (λ c κs. search rules)
     (λ c.
     let a = c.before.before.before.before.before.before.before.before.before.args in
     let q : Request = request_of a.c a.d a.ops.now (length a.buffer.now) in
     let fit = accepted_fit a.c a.d a.ops.now (length a.buffer.now) c.before.before.before.before.before.before.before.before.before.requires in
-    let mine = told c.before.before.before.before.belongs.ensures (un_not c.before.before.before.if1.false) in
-    let over = told c.before.before.is-ended.ensures c.before.if2.true in
+    let mine = told c.before.before.before.before.belongs.ensures c.before.before.before.if-not-belongs.false in
+    let over = told c.before.before.is_ended.ensures c.before.if-is_ended.true in
     rw (ended_taken a.c a.d a.ops.now (length a.buffer.now) a.saved fit mine over, ended q (length a.log.now / 2) a.saved a.buffer.now a.answers.now (holds over), c.stopped.ensures))
     (λ c κs.
     let a = c.before.before.before.before.before.before.before.before.args in
     let q : Request = request_of a.c a.d a.ops.now (length a.buffer.now) in
     let fit = accepted_fit a.c a.d a.ops.now (length a.buffer.now) c.before.before.before.before.before.before.before.before.requires in
-    let mine = told c.before.before.before.belongs.ensures (un_not c.before.before.if1.false) in
-    let going = told c.before.is-ended.ensures c.if2.false in
+    let mine = told c.before.before.before.belongs.ensures c.before.before.if-not-belongs.false in
+    let going = told c.before.is_ended.ensures c.if-is_ended.false in
     (fit, piece_small a.c a.d a.ops.now (length a.buffer.now) a.saved fit mine going))
     (λ c κs.
     let a = c.before.before.before.before.before.before.before.before.before.args in
     let q : Request = request_of a.c a.d a.ops.now (length a.buffer.now) in
     let fit = accepted_fit a.c a.d a.ops.now (length a.buffer.now) c.before.before.before.before.before.before.before.before.before.requires in
-    (fit, c.cursor-at.ensures))
+    (fit, c.cursor_at-p.ensures))
     (λ c κs. search rules)
     (λ c.
     let a = c.before.before.before.before.before.before.before.before.before.before.before.before.args in
     let q : Request = request_of a.c a.d a.ops.now (length a.buffer.now) in
     let fit = accepted_fit a.c a.d a.ops.now (length a.buffer.now) c.before.before.before.before.before.before.before.before.before.before.before.before.requires in
-    let mine = told c.before.before.before.before.before.before.before.belongs.ensures (un_not c.before.before.before.before.before.before.if1.false) in
-    let going = told c.before.before.before.before.before.is-ended.ensures c.before.before.before.before.if2.false in
-    rw (by_standing a.c a.d a.ops.now (length a.buffer.now) a.saved fit mine going _ (told c.before.before.stands.ensures (un_not c.before.if3.true)), c.refused2.ensures))
+    let mine = told c.before.before.before.before.before.before.before.belongs.ensures c.before.before.before.before.before.before.if-not-belongs.false in
+    let going = told c.before.before.before.before.before.is_ended.ensures c.before.before.before.before.if-is_ended.false in
+    rw (by_standing a.c a.d a.ops.now (length a.buffer.now) a.saved fit mine going _ (told c.before.before.stands.ensures c.before.if-not-stands.true), c.refused-then-not-stands.ensures))
     (λ c κs.
     let a = c.before.before.before.before.before.before.before.before.before.before.before.before.before.args in
     let q : Request = request_of a.c a.d a.ops.now (length a.buffer.now) in
     let fit = accepted_fit a.c a.d a.ops.now (length a.buffer.now) c.before.before.before.before.before.before.before.before.before.before.before.before.before.requires in
-    let mine = told c.before.before.before.before.before.before.before.before.belongs.ensures (un_not c.before.before.before.before.before.before.before.if1.false) in
-    let going = told c.before.before.before.before.before.before.is-ended.ensures c.before.before.before.before.before.if2.false in
-    let taken = by_standing a.c a.d a.ops.now (length a.buffer.now) a.saved fit mine going _ (told c.before.before.before.stands.ensures (un_not c.before.before.if3.false)) in
-    (fit, c.before.before.before.before.cursor-at.ensures, known q a.saved (holds taken) (fails going)))
+    let mine = told c.before.before.before.before.before.before.before.before.belongs.ensures c.before.before.before.before.before.before.before.if-not-belongs.false in
+    let going = told c.before.before.before.before.before.before.is_ended.ensures c.before.before.before.before.before.if-is_ended.false in
+    let taken = by_standing a.c a.d a.ops.now (length a.buffer.now) a.saved fit mine going _ (told c.before.before.before.stands.ensures c.before.before.if-not-stands.false) in
+    (fit, c.before.before.before.before.cursor_at-p.ensures, known q a.saved (holds taken) (fails going)))
     (λ c. search rules)
     (λ c. search rules)
     (λ c.
     let a = c.before.before.before.before.before.before.before.before.before.before.before.before.before.before.before.before.before.before.args in
     let q : Request = request_of a.c a.d a.ops.now (length a.buffer.now) in
     let fit = accepted_fit a.c a.d a.ops.now (length a.buffer.now) c.before.before.before.before.before.before.before.before.before.before.before.before.before.before.before.before.before.before.requires in
-    let mine = told c.before.before.before.before.before.before.before.before.before.before.before.before.before.belongs.ensures (un_not c.before.before.before.before.before.before.before.before.before.before.before.before.if1.false) in
-    let going = told c.before.before.before.before.before.before.before.before.before.before.before.is-ended.ensures c.before.before.before.before.before.before.before.before.before.before.if2.false in
-    let taken = by_standing a.c a.d a.ops.now (length a.buffer.now) a.saved fit mine going _ (told c.before.before.before.before.before.before.before.before.stands.ensures (un_not c.before.before.before.before.before.before.before.if3.false)) in
+    let mine = told c.before.before.before.before.before.before.before.before.before.before.before.before.before.belongs.ensures c.before.before.before.before.before.before.before.before.before.before.before.before.if-not-belongs.false in
+    let going = told c.before.before.before.before.before.before.before.before.before.before.before.is_ended.ensures c.before.before.before.before.before.before.before.before.before.before.if-is_ended.false in
+    let taken = by_standing a.c a.d a.ops.now (length a.buffer.now) a.saved fit mine going _ (told c.before.before.before.before.before.before.before.before.stands.ensures c.before.before.before.before.before.before.before.if-not-stands.false) in
     rw taken c.before.before.before.before.run.ensures))

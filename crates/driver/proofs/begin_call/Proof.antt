@@ -14,4 +14,4 @@ begin_call_spec =
     (tie.spec
     (λ c κs. (accepted_fit c.before.args.c c.before.args.d c.before.args.ops.now c.before.args.n c.before.requires).size)
     (λ c κs. search rules)
-    (λ c. c.begin-at.ensures ∙ ap (λ (some : Bool). start_at c.before.before.before.args.c (begin_at c.before.before.before.args.c some)) c.before.has-pieces.ensures))
+    (λ c. c.begin_at.ensures ∙ ap (λ (some : Bool). start_at c.before.before.before.args.c (begin_at c.before.before.before.args.c some)) c.before.has_pieces.ensures))

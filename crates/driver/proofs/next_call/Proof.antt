@@ -29,42 +29,42 @@ next_call_spec =
     let a = c.before.before.before.before.before.args in
     let q : Request = request_of a.c a.d a.ops.now (length a.buffer.now) in
     let fit = accepted_fit a.c a.d a.ops.now (length a.buffer.now) c.before.before.before.before.before.requires in
-    rw (no_belonging a.c a.d a.ops.now (length a.buffer.now) a.saved fit (told c.before.before.belongs.ensures (un_not c.before.if1.true)), c.no-next.ensures))
+    rw (no_belonging a.c a.d a.ops.now (length a.buffer.now) a.saved fit (told c.before.before.belongs.ensures c.before.if-not-belongs.true), c.no_next.ensures))
     (λ c κs. search rules)
     (λ c.
     let a = c.before.before.before.before.before.before.args in
     let q : Request = request_of a.c a.d a.ops.now (length a.buffer.now) in
     let fit = accepted_fit a.c a.d a.ops.now (length a.buffer.now) c.before.before.before.before.before.before.requires in
-    let mine = told c.before.before.before.belongs.ensures (un_not c.before.before.if1.false) in
-    let over = told c.before.is-ended.ensures c.if2.true in
+    let mine = told c.before.before.before.belongs.ensures c.before.before.if-not-belongs.false in
+    let over = told c.before.is_ended.ensures c.if-is_ended.true in
     rw (ended_taken a.c a.d a.ops.now (length a.buffer.now) a.saved fit mine over, no_access q a.buffer.now a.saved (holds over)))
     (λ c κs.
     let a = c.before.before.before.before.before.before.args in
     let q : Request = request_of a.c a.d a.ops.now (length a.buffer.now) in
     let fit = accepted_fit a.c a.d a.ops.now (length a.buffer.now) c.before.before.before.before.before.before.requires in
-    let mine = told c.before.before.before.belongs.ensures (un_not c.before.before.if1.false) in
-    let going = told c.before.is-ended.ensures c.if2.false in
+    let mine = told c.before.before.before.belongs.ensures c.before.before.if-not-belongs.false in
+    let going = told c.before.is_ended.ensures c.if-is_ended.false in
     (fit, piece_small a.c a.d a.ops.now (length a.buffer.now) a.saved fit mine going))
     (λ c κs.
     let a = c.before.before.before.before.before.before.before.args in
     let q : Request = request_of a.c a.d a.ops.now (length a.buffer.now) in
     let fit = accepted_fit a.c a.d a.ops.now (length a.buffer.now) c.before.before.before.before.before.before.before.requires in
-    (fit, c.cursor-at.ensures))
+    (fit, c.cursor_at-p.ensures))
     (λ c κs. search rules)
     (λ c.
     let a = c.before.before.before.before.before.before.before.before.before.before.args in
     let q : Request = request_of a.c a.d a.ops.now (length a.buffer.now) in
     let fit = accepted_fit a.c a.d a.ops.now (length a.buffer.now) c.before.before.before.before.before.before.before.before.before.before.requires in
-    let mine = told c.before.before.before.before.before.before.before.belongs.ensures (un_not c.before.before.before.before.before.before.if1.false) in
-    let going = told c.before.before.before.before.before.is-ended.ensures c.before.before.before.before.if2.false in
-    rw (by_standing a.c a.d a.ops.now (length a.buffer.now) a.saved fit mine going _ (told c.before.before.stands.ensures (un_not c.before.if3.true)), c.no-next2.ensures))
+    let mine = told c.before.before.before.before.before.before.before.belongs.ensures c.before.before.before.before.before.before.if-not-belongs.false in
+    let going = told c.before.before.before.before.before.is_ended.ensures c.before.before.before.before.if-is_ended.false in
+    rw (by_standing a.c a.d a.ops.now (length a.buffer.now) a.saved fit mine going _ (told c.before.before.stands.ensures c.before.if-not-stands.true), c.no_next-then-not-stands.ensures))
     (λ c κs. search rules)
     (λ c.
     let a = c.before.before.before.before.before.before.before.before.before.before.before.args in
     let q : Request = request_of a.c a.d a.ops.now (length a.buffer.now) in
     let fit = accepted_fit a.c a.d a.ops.now (length a.buffer.now) c.before.before.before.before.before.before.before.before.before.before.before.requires in
-    let mine = told c.before.before.before.before.before.before.before.before.belongs.ensures (un_not c.before.before.before.before.before.before.before.if1.false) in
-    let going = told c.before.before.before.before.before.before.is-ended.ensures c.before.before.before.before.before.if2.false in
-    rw (by_standing a.c a.d a.ops.now (length a.buffer.now) a.saved fit mine going _ (told c.before.before.before.stands.ensures (un_not c.before.before.if3.false)))
-    (c.register-at.ensures a.c a.buffer.now
-    ∙ ap (λ (p : Cursor). next_of (access_at a.c a.d p.view a.buffer.now a.saved a.saved.step)) c.before.before.before.before.cursor-at.ensures)))
+    let mine = told c.before.before.before.before.before.before.before.before.belongs.ensures c.before.before.before.before.before.before.before.if-not-belongs.false in
+    let going = told c.before.before.before.before.before.before.is_ended.ensures c.before.before.before.before.before.if-is_ended.false in
+    rw (by_standing a.c a.d a.ops.now (length a.buffer.now) a.saved fit mine going _ (told c.before.before.before.stands.ensures c.before.before.if-not-stands.false))
+    (c.register_at.ensures a.c a.buffer.now
+    ∙ ap (λ (p : Cursor). next_of (access_at a.c a.d p.view a.buffer.now a.saved a.saved.step)) c.before.before.before.before.cursor_at-p.ensures)))

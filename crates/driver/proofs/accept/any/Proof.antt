@@ -10,4 +10,4 @@ any_spec =
     (λ c κs. search rules)
     (λ c κs. search rules)
     (λ c κs. search rules)
-    (λ c. rw (c.before.before.is_call.ensures, c.before.is-call2.ensures, c.is-call3.ensures)))
+    (λ c. rw (c.before.before.is_call.ensures, c.before.is_call-2.ensures, c.is_call-3.ensures)))

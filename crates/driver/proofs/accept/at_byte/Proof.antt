@@ -13,4 +13,4 @@ at_byte_spec =
     (λ c κs. search rules)
     (λ c.
     let m = c.before.before in
-    rw (m.before.before.is_byte_lem.ensures, m.before.byte_there.ensures, m.is-manual-write.ensures)))
+    rw (m.before.before.is_byte.ensures, m.before.byte_there.ensures, m.is_manual_write.ensures)))

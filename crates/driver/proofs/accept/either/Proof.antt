@@ -9,4 +9,4 @@ either_spec =
     (tie.spec
     (λ c κs. search rules)
     (λ c κs. search rules)
-    (λ c. rw (c.before.is_call.ensures, c.is-call2.ensures)))
+    (λ c. rw (c.before.is_call.ensures, c.is_call-2.ensures)))

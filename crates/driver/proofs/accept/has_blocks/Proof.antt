@@ -9,4 +9,4 @@ has_blocks_spec =
     (tie.spec
     (λ c κs. search rules)
     (λ c κs. search rules)
-    (λ c. rw (c.before.is-manual.ensures, c.moves-bytes.ensures)))
+    (λ c. rw (c.before.is_manual.ensures, c.moves_bytes.ensures)))

@@ -9,4 +9,4 @@ has_errors_spec =
     (tie.spec
     (λ c κs. search rules)
     (λ c κs. search rules)
-    (λ c. rw (c.before.is-eventful.ensures, c.has_move.ensures)))
+    (λ c. rw (c.before.is_eventful.ensures, c.has_move.ensures)))

@@ -9,4 +9,4 @@ has_manual_events_spec =
     (tie.spec
     (λ c κs. search rules)
     (λ c κs. search rules)
-    (λ c. rw (c.before.is-manual.ensures, c.is-eventful.ensures)))
+    (λ c. rw (c.before.is_manual.ensures, c.is_eventful.ensures)))

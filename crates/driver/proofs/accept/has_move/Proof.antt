@@ -9,4 +9,4 @@ has_move_spec =
     (tie.spec
     (λ c κs. search rules)
     (λ c κs. search rules)
-    (λ c. rw (c.before.is-transaction.ensures, c.moves-bytes.ensures)))
+    (λ c. rw (c.before.is_transaction.ensures, c.moves_bytes.ensures)))

@@ -9,4 +9,4 @@ has_nack_spec =
     (tie.spec
     (λ c κs. search rules)
     (λ c κs. search rules)
-    (λ c. rw (c.before.is-transaction.ensures, c.is-transmitter.ensures)))
+    (λ c. rw (c.before.is_transaction.ensures, c.is_transmitter.ensures)))

@@ -9,4 +9,4 @@ has_nack_set_spec =
     (tie.spec
     (λ c κs. search rules)
     (λ c κs. search rules)
-    (λ c. rw (c.before.is_call.ensures, c.is-auto-receiver.ensures)))
+    (λ c. rw (c.before.is_call.ensures, c.is_auto_receiver.ensures)))

@@ -10,4 +10,4 @@ has_own_spec =
     (λ c κs. search rules)
     (λ c κs. search rules)
     (λ c κs. search rules)
-    (λ c. rw (c.before.before.is_call.ensures, c.before.either.ensures, c.has-configuration.ensures)))
+    (λ c. rw (c.before.before.is_call.ensures, c.before.either.ensures, c.has_configuration.ensures)))

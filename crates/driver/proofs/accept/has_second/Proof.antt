@@ -9,4 +9,4 @@ has_second_spec =
     (tie.spec
     (λ c κs. search rules)
     (λ c κs. search rules)
-    (λ c. rw (c.before.any.ensures, c.has-secondary.ensures)))
+    (λ c. rw (c.before.any.ensures, c.has_secondary.ensures)))

@@ -8,4 +8,4 @@ has_starts_spec =
     tie.close
     (tie.spec
     (λ c κs. search rules)
-    (λ c. rw c.is-transaction.ensures))
+    (λ c. rw c.is_transaction.ensures))

@@ -9,4 +9,4 @@ has_stop_spec =
     (tie.spec
     (λ c κs. search rules)
     (λ c κs. search rules)
-    (λ c. rw (c.before.is-eventful.ensures, c.is-transaction.ensures)))
+    (λ c. rw (c.before.is_eventful.ensures, c.is_transaction.ensures)))

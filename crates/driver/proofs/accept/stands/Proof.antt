@@ -22,5 +22,5 @@ stands_spec =
     (λ c.
     let start = c.before.before.before.before in
     let a = start.args in
-    rw (c.before.is-there.ensures, c.at_byte.ensures)
+    rw (c.before.is_there.ensures, c.at_byte.ensures)
     (ap (λ (p : Cursor). ltb a.s.piece (max 1 (length (pieces_for a.c a.ops.now a.n))) && at_byte a.c p.view a.s) start.requires.1)))

@@ -9,4 +9,4 @@ is_ready_spec =
     (tie.spec
     (λ c κs. search rules)
     (λ c κs. search rules)
-    (λ c. rw (c.before.before.before.awaited-flags.ensures, c.before.before.is-done.ensures)))
+    (λ c. rw (c.before.before.before.awaited_flags.ensures, c.before.before.is_done.ensures)))

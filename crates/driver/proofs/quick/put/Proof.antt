@@ -18,5 +18,5 @@ put_spec =
     (λ c l q d.
     let a = c.before.before.before.before.before.before.before.before.before.before.before.args in
     let p = c.before.before.before.before.before.before.before.before.before.before.before.requires in
-    rw (c.made.ensures, c.before.held_out.ensures, c.before.before.before.before.before.note.ensures, c.before.before.before.before.before.before.write-code.ensures, c.before.before.before.before.before.before.before.before.byte_out.ensures)
+    rw (c.made.ensures, c.before.held_out.ensures, c.before.before.before.before.before.note.ensures, c.before.before.before.before.before.before.write_code.ensures, c.before.before.before.before.before.before.before.before.byte_out-value.ensures)
     (put q d a.v a.s a.buffer.now l a.used a.log.now a.at p.1 p.2 p.3)))

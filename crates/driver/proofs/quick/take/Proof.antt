@@ -25,6 +25,6 @@ take_spec =
     let a = c.before.before.before.before.before.before.before.before.before.before.before.before.before.before.before.before.before.before.args in
     let p = c.before.before.before.before.before.before.before.before.before.before.before.before.before.before.before.before.before.before.requires in
     rw (c.made.ensures, c.before.held_out.ensures, c.before.before.before.before.before.keep.ensures, c.before.before.before.before.before.before.place.ensures, c.before.before.before.before.before.before.before.before.before.before.note.ensures, c.before.before.before.before.before.before.before.before.before.before.before.offset.ensures)
-    (taken q d a.v a.s a.buffer.now a.answers.now a.used a.log.now a.at p.1 p.2 (lt-ltb _ _ c.before.before.before.before.before.before.before.before.before.before.before.before.before.before.if1.true) p.3))
+    (taken q d a.v a.s a.buffer.now a.answers.now a.used a.log.now a.at p.1 p.2 (lt-ltb _ _ c.before.before.before.before.before.before.before.before.before.before.before.before.before.before.if-used-answers.true) p.3))
     (λ c κs. search rules)
     (λ c q d. rw c.passes.ensures))

@@ -9,11 +9,11 @@ turn_spec =
     tie.close
     (tie.spec
     (λ c κs. search rules)
-    (λ c κs. (c.before.before.before.before.before.before.requires.0, told c.before.before.is-wait.ensures c.before.if1.true))
+    (λ c κs. (c.before.before.before.before.before.before.requires.0, told c.before.before.is_wait.ensures c.before.if-is_wait.true))
     (λ c. search rules)
     (λ c. c.before.before.wait.ensures _)
     (λ c κs. search rules)
-    (λ c κs. (c.before.before.before.before.before.before.before.before.before.requires.0, c.before.before.before.before.before.before.before.before.before.requires.1, told c.before.before.before.is_byte_lem.ensures c.before.before.if2.true))
+    (λ c κs. (c.before.before.before.before.before.before.before.before.before.requires.0, c.before.before.before.before.before.before.before.before.before.requires.1, told c.before.before.before.is_byte.ensures c.before.before.if-is_byte.true))
     (λ c. search rules)
     (λ c. search rules)
     (λ c. search rules)

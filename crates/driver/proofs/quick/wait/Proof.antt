@@ -23,8 +23,8 @@ wait_spec =
     (λ c b q d.
     let a = c.before.before.before.before.before.before.before.before.before.before.before.before.args in
     rw (c.made.ensures, c.before.before.before.note.ensures, c.before.before.before.before.offset.ensures)
-    (waited q d a.v a.s b a.answers.now a.used a.log.now a.at Wait c.before.before.before.before.before.before.before.before.before.before.before.before.requires.1 (lt-ltb _ _ c.before.before.before.before.before.before.before.before.before.if1.true)
-    (idle q a.v a.s _ (sym c.before.before.before.before.before.before.before.get.ensures ∙ c.before.before.before.before.before.before.if2.true) d)))
+    (waited q d a.v a.s b a.answers.now a.used a.log.now a.at Wait c.before.before.before.before.before.before.before.before.before.before.before.before.requires.1 (lt-ltb _ _ c.before.before.before.before.before.before.before.before.before.if-used-answers.true)
+    (idle q a.v a.s _ (sym c.before.before.before.before.before.before.before.get-flags.ensures ∙ c.before.before.before.before.before.before.if-flags-eq0.true) d)))
     (λ c κs. search rules)
     (λ c κs. search rules)
     (λ c κs. search rules)
@@ -33,8 +33,8 @@ wait_spec =
     (λ c. search rules)
     (λ c b q d.
     let a = c.before.before.before.before.before.before.before.before.before.before.before.before.before.before.args in
-    rw (c.made2.ensures, c.before.before.before.note2.ensures, c.before.before.before.before.offset2.ensures)
-    (waited q d a.v a.s b a.answers.now a.used a.log.now a.at Byte c.before.before.before.before.before.before.before.before.before.before.before.before.before.before.requires.1 (lt-ltb _ _ c.before.before.before.before.before.before.before.before.before.before.before.if1.true)
-    (ready q a.v a.s _ _ c.before.before.before.before.before.before.before.before.before.get.ensures (told c.before.before.before.before.before.before.before.is-ready.ensures c.before.before.before.before.before.before.if3.true) d)))
+    rw (c.made-then-is_ready.ensures, c.before.before.before.note-then-is_ready.ensures, c.before.before.before.before.offset-then-is_ready.ensures)
+    (waited q d a.v a.s b a.answers.now a.used a.log.now a.at Byte c.before.before.before.before.before.before.before.before.before.before.before.before.before.before.requires.1 (lt-ltb _ _ c.before.before.before.before.before.before.before.before.before.before.before.if-used-answers.true)
+    (ready q a.v a.s _ _ c.before.before.before.before.before.before.before.before.before.get-flags.ensures (told c.before.before.before.before.before.before.before.is_ready.ensures c.before.before.before.before.before.before.if-is_ready.true) d)))
     (λ c κs. search rules)
     (λ c b q d. rw c.passes.ensures))

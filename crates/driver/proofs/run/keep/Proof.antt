@@ -22,4 +22,4 @@ keep_spec =
     (λ c. search rules)
     (λ c. search rules)
     (λ c. rw (c.rxdata.ensures, low))
-    (λ c. sym (set_out c.before.before.args.buffer.now _ _ c.if1.false)))
+    (λ c. sym (set_out c.before.before.args.buffer.now _ _ c.if-at-buffer.false)))

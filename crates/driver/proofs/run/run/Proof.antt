@@ -15,23 +15,23 @@ use Rattle.driver.specs.declared.view.Cursor.{Cursor}
 use Rattle.driver.proofs.run.run.Statement.{statement}
 use Rattle.driver.proofs.run.run.Tie as tie
 
-abbrev invariant-loop2 : tie.invariant-loop2
+abbrev invariant-loop2 : tie.invariant-loop-quick
 invariant-loop2 c d ops n buffer₀ answers log₀ s₀ p used₀ written₀ places v quick₀ buffer log s used written quick =
     let q : Request = request_of c d ops n in
     Going q answers places (to_come q answers places buffer₀ log₀ s₀ used₀ written₀) buffer₀ log₀ buffer log s v used written ×
     (written < places) × (written₀ ≤ written) × (s.piece ≡ s₀.piece)
 
-abbrev decreases-loop2 : tie.decreases-loop2
+abbrev decreases-loop2 : tie.decreases-loop-quick
 decreases-loop2 c d ops n buffer₀ answers log₀ s₀ p used₀ written₀ places v quick₀ buffer log s used written quick =
     places - written + cond quick 1 0
 
-abbrev invariant-loop : tie.invariant-loop
+abbrev invariant-loop : tie.invariant-loop-written
 invariant-loop c d ops n buffer₀ answers log₀ s₀ p₀ used₀ written₀ places buffer log s p used written =
     let q : Request = request_of c d ops n in
     Going q answers places (to_come q answers places buffer₀ log₀ s₀ 0 0) buffer₀ log₀ buffer log s p.view used written ×
     (written ≤ places) × (p ≡ cursor_at c ops n s.piece)
 
-abbrev decreases-loop : tie.decreases-loop
+abbrev decreases-loop : tie.decreases-loop-written
 decreases-loop c d ops n buffer₀ answers log₀ s₀ p₀ used₀ written₀ places buffer log s p used written = places - written
 
 pub run_spec : {M : Type 1} → statement M
@@ -46,79 +46,79 @@ run_spec =
     let p = c.before.before.before.before.requires in
     (record { places = omega arith; buffer_kept = refl; log_kept = refl; view = ap (λ (x : Cursor). x.view) p.1; known = p.2; rest = refl }, omega arith, p.1))
     (λ c.
-    let g = c.before.before.loop.invariant.0 in
-    (record { places = g.places; buffer_kept = refl; log_kept = refl; view = g.view; known = g.known; rest = refl }, c.before.loop-test.true, omega arith, refl))
-    (λ c. omega (arith, c.loop2.invariant.0.places, c.loop2.invariant.0.log_kept, c.before.before.before.loop.invariant.0.log_kept, c.loop2.invariant.1, c.before.before.before.before.before.before.before.before.well-formed.1.1.1.1.1.1.1.1.0.0))
-    (λ c. let g = c.before.before.before.loop2.invariant in omega (arith, g.0.places, g.0.log_kept, c.before.before.before.before.before.before.loop.invariant.0.log_kept, g.1, c.before.before.before.before.before.before.before.before.before.before.before.well-formed.1.1.1.1.1.1.1.1.0.0))
+    let g = c.before.before.loop-written.invariant.0 in
+    (record { places = g.places; buffer_kept = refl; log_kept = refl; view = g.view; known = g.known; rest = refl }, c.before.loop-written-test.true, omega arith, refl))
+    (λ c. omega (arith, c.loop-quick.invariant.0.places, c.loop-quick.invariant.0.log_kept, c.before.before.before.loop-written.invariant.0.log_kept, c.loop-quick.invariant.1, c.before.before.before.before.before.before.before.before.well_formed.1.1.1.1.1.1.1.1.0.0))
+    (λ c. let g = c.before.before.before.loop-quick.invariant in omega (arith, g.0.places, g.0.log_kept, c.before.before.before.before.before.before.loop-written.invariant.0.log_kept, g.1, c.before.before.before.before.before.before.before.before.before.before.before.well_formed.1.1.1.1.1.1.1.1.0.0))
     (λ c κs.
     let a = c.before.before.before.before.before.before.before.before.before.before.before.args in
-    let j = c.before.before.before.loop2 in
+    let j = c.before.before.before.loop-quick in
     (omega (arith, j.invariant.0.places, j.invariant.1), (known_small a.c a.d a.ops.now a.n j.s c.before.before.before.before.before.before.before.before.before.before.before.requires.0 j.invariant.0.known).0))
     (λ c κs. search rules)
-    (λ c. let g = c.before.before.before.before.before.before.before.before.before.before.loop2.invariant in omega (arith, g.0.places, g.0.log_kept, c.before.before.before.before.before.before.before.before.before.before.before.before.before.loop.invariant.0.log_kept, g.1, c.before.before.before.before.before.before.before.before.before.before.before.before.before.before.before.before.before.before.well-formed.1.1.1.1.1.1.1.1.0.0))
+    (λ c. let g = c.before.before.before.before.before.before.before.before.before.before.loop-quick.invariant in omega (arith, g.0.places, g.0.log_kept, c.before.before.before.before.before.before.before.before.before.before.before.before.before.loop-written.invariant.0.log_kept, g.1, c.before.before.before.before.before.before.before.before.before.before.before.before.before.before.before.before.before.before.well_formed.1.1.1.1.1.1.1.1.0.0))
     (λ c.
-    let j = c.before.before.before.before.before.before.before.before.before.before.loop2 in
-    let on : j.quick ≡ true = (tested j.quick c.before.before.before.before.before.before.before.before.before.loop2-test.true).0 in
-    rw (c.before.if1.true, on) (omega (arith, j.invariant.1)))
+    let j = c.before.before.before.before.before.before.before.before.before.before.loop-quick in
+    let on : j.quick ≡ true = (tested j.quick c.before.before.before.before.before.before.before.before.before.loop-quick-test.true).0 in
+    rw (c.before.if-quick.true, on) (omega (arith, j.invariant.1)))
     (λ c.
     let a = c.before.before.before.before.before.before.before.before.before.before.before.before.before.before.before.before.before.before.args in
-    let j = c.before.before.before.before.before.before.before.before.before.before.loop2 in
-    let t = c.before.before.before.before.before.before.turn in
-    (rw c.moved.ensures (goes_quick (request_of a.c a.d a.ops.now a.n) _ _ _ _ _ _ _ _ _ _ _ j.invariant.0 t.result _ _ t.ensures j.invariant.1 c.before.if1.true t.auto.1.1.0 t.auto.1.1.1.1.1.0), ltb-true _ _ (tested j.quick c.before.before.before.before.before.before.before.before.before.loop2-test.true).1, omega (arith, j.invariant.2), rw c.moved.ensures j.invariant.3))
+    let j = c.before.before.before.before.before.before.before.before.before.before.loop-quick in
+    let t = c.before.before.before.before.before.before.turn-k in
+    (rw c.moved-s.ensures (goes_quick (request_of a.c a.d a.ops.now a.n) _ _ _ _ _ _ _ _ _ _ _ j.invariant.0 t.result _ _ t.ensures j.invariant.1 c.before.if-quick.true t.auto.buffer t.auto.log), ltb-true _ _ (tested j.quick c.before.before.before.before.before.before.before.before.before.loop-quick-test.true).1, omega (arith, j.invariant.2), rw c.moved-s.ensures j.invariant.3))
     (λ c.
-    let j = c.before.before.before.before.before.before.before.before.before.loop2 in
-    let on : j.quick ≡ true = (tested j.quick c.before.before.before.before.before.before.before.before.loop2-test.true).0 in
-    rw (c.if1.false, on) (omega arith))
+    let j = c.before.before.before.before.before.before.before.before.before.loop-quick in
+    let on : j.quick ≡ true = (tested j.quick c.before.before.before.before.before.before.before.before.loop-quick-test.true).0 in
+    rw (c.if-quick.false, on) (omega arith))
     (λ c.
     let a = c.before.before.before.before.before.before.before.before.before.before.before.before.before.before.before.before.before.args in
-    let j = c.before.before.before.before.before.before.before.before.before.loop2 in
-    let t = c.before.before.before.before.before.turn in
-    (stays_quick (request_of a.c a.d a.ops.now a.n) _ _ _ _ _ _ _ _ _ _ _ j.invariant.0 t.result _ _ t.ensures c.if1.false, j.invariant.1, j.invariant.2, j.invariant.3))
-    (λ c. let g = c.before.before.before.loop2.invariant in omega (arith, g.0.places, g.0.log_kept, c.before.before.before.before.before.before.loop.invariant.0.log_kept, g.1, c.before.before.before.before.before.before.before.before.before.before.before.well-formed.1.1.1.1.1.1.1.1.0.0))
+    let j = c.before.before.before.before.before.before.before.before.before.loop-quick in
+    let t = c.before.before.before.before.before.turn-k in
+    (stays_quick (request_of a.c a.d a.ops.now a.n) _ _ _ _ _ _ _ _ _ _ _ j.invariant.0 t.result _ _ t.ensures c.if-quick.false, j.invariant.1, j.invariant.2, j.invariant.3))
+    (λ c. let g = c.before.before.before.loop-quick.invariant in omega (arith, g.0.places, g.0.log_kept, c.before.before.before.before.before.before.loop-written.invariant.0.log_kept, g.1, c.before.before.before.before.before.before.before.before.before.before.before.well_formed.1.1.1.1.1.1.1.1.0.0))
     (λ c κs.
     let a = c.before.before.before.before.before.before.before.before.before.before.before.args in
-    let j = c.before.before.before.loop2 in
+    let j = c.before.before.before.loop-quick in
     let small = known_small a.c a.d a.ops.now a.n j.s c.before.before.before.before.before.before.before.before.before.before.before.requires.0 j.invariant.0.known in
     (omega (arith, j.invariant.0.places, j.invariant.1), small.0, rw j.invariant.0.view small.1))
     (λ c κs.
     let a = c.before.before.before.before.before.before.before.before.before.before.before.before.before.before.before.before.before.before.args in
     let fit = c.before.before.before.before.before.before.before.before.before.before.before.before.before.before.before.before.before.before.requires.0 in
-    let j = c.before.before.before.before.before.before.before.before.before.before.loop2 in
-    let t = c.before.before.before.before.before.before.turn2 in
-    let next = kept (request_of a.c a.d a.ops.now a.n) _ _ _ _ _ _ _ _ _ _ _ j.invariant.0 t.result _ _ t.ensures c.before.if2.true in (
+    let j = c.before.before.before.before.before.before.before.before.before.before.loop-quick in
+    let t = c.before.before.before.before.before.before.turn-t in
+    let next = kept (request_of a.c a.d a.ops.now a.n) _ _ _ _ _ _ _ _ _ _ _ j.invariant.0 t.result _ _ t.ensures c.before.if-t.true in (
       fit,
       (
         ((known_small a.c a.d a.ops.now a.n j.s fit j.invariant.0.known).0.piece, (known_small a.c a.d a.ops.now a.n t.result.saved fit next).0.piece),
-        rw j.invariant.3 c.before.before.before.before.before.before.before.before.before.before.before.before.before.loop.invariant.2,
+        rw j.invariant.3 c.before.before.before.before.before.before.before.before.before.before.before.before.before.loop-written.invariant.2,
       ),
     ))
-    (λ c. let g = c.before.before.before.before.before.before.before.before.before.before.before.loop2.invariant in omega (arith, g.0.places, g.0.log_kept, c.before.before.before.before.before.before.before.before.before.before.before.before.before.before.loop.invariant.0.log_kept, g.1, c.before.before.before.before.before.before.before.before.before.before.before.before.before.before.before.before.before.before.before.well-formed.1.1.1.1.1.1.1.1.0.0))
-    (λ c. omega (arith, c.before.before.before.before.before.before.before.before.before.before.before.loop2.invariant.1, c.before.before.before.before.before.before.before.before.before.before.before.loop2.invariant.2))
+    (λ c. let g = c.before.before.before.before.before.before.before.before.before.before.before.loop-quick.invariant in omega (arith, g.0.places, g.0.log_kept, c.before.before.before.before.before.before.before.before.before.before.before.before.before.before.loop-written.invariant.0.log_kept, g.1, c.before.before.before.before.before.before.before.before.before.before.before.before.before.before.before.before.before.before.before.well_formed.1.1.1.1.1.1.1.1.0.0))
+    (λ c. omega (arith, c.before.before.before.before.before.before.before.before.before.before.before.loop-quick.invariant.1, c.before.before.before.before.before.before.before.before.before.before.before.loop-quick.invariant.2))
     (λ c.
     let a = c.before.before.before.before.before.before.before.before.before.before.before.before.before.before.before.before.before.before.before.args in
-    let j = c.before.before.before.before.before.before.before.before.before.before.before.loop2 in
-    let t = c.before.before.before.before.before.before.before.turn2 in
-    let g = goes_on (request_of a.c a.d a.ops.now a.n) _ _ _ _ _ _ _ _ _ _ _ j.invariant.0 t.result _ _ t.ensures j.invariant.1 c.before.before.if2.true t.auto.1.1.1.1.0 t.auto.1.1.1.1.1.1.1.0 _ (ap (λ (x : Cursor). x.view) c.cursor-after.ensures) in
-    (after g c.before.before.before.before.before.before.before.before.before.before.before.before.before.before.loop.invariant.0, omega (arith, j.invariant.1), c.cursor-after.ensures))
+    let j = c.before.before.before.before.before.before.before.before.before.before.before.loop-quick in
+    let t = c.before.before.before.before.before.before.before.turn-t in
+    let g = goes_on (request_of a.c a.d a.ops.now a.n) _ _ _ _ _ _ _ _ _ _ _ j.invariant.0 t.result _ _ t.ensures j.invariant.1 c.before.before.if-t.true t.auto.buffer t.auto.log _ (ap (λ (x : Cursor). x.view) c.cursor_after-p.ensures) in
+    (after g c.before.before.before.before.before.before.before.before.before.before.before.before.before.before.loop-written.invariant.0, omega (arith, j.invariant.1), c.cursor_after-p.ensures))
     (λ c. search rules)
     (λ c. search rules)
     (λ c.
     let a = c.before.before.before.before.before.before.before.before.before.before.before.before.before.before.before.before.before.before.args in
-    let i = c.before.before.before.before.before.before.before.before.before.before.before.before.before.loop in
-    let j = c.before.before.before.before.before.before.before.before.before.before.loop2 in
-    let t = c.before.before.before.before.before.before.turn2 in
-    ends (request_of a.c a.d a.ops.now a.n) _ _ _ _ _ _ _ _ _ _ _ j.invariant.0 t.result _ _ t.ensures j.invariant.1 c.before.if2.false ∙ i.invariant.0.rest
+    let i = c.before.before.before.before.before.before.before.before.before.before.before.before.before.loop-written in
+    let j = c.before.before.before.before.before.before.before.before.before.before.loop-quick in
+    let t = c.before.before.before.before.before.before.turn-t in
+    ends (request_of a.c a.d a.ops.now a.n) _ _ _ _ _ _ _ _ _ _ _ j.invariant.0 t.result _ _ t.ensures j.invariant.1 c.before.if-t.false ∙ i.invariant.0.rest
     ∙ whole (request_of a.c a.d a.ops.now a.n) a.saved a.buffer.now a.answers.now a.log.now)
     (λ c κs. search rules)
     (λ c. search rules)
     (λ c. search rules)
     (λ c.
     let a = c.before.before.before.before.before.before.before.before.args in
-    full (request_of a.c a.d a.ops.now a.n) _ _ _ _ _ _ _ _ _ _ _ c.before.before.before.loop.invariant.0 (omega arith) _ (rw (sym c.before.is-ended.ensures, c.if3.true))
+    full (request_of a.c a.d a.ops.now a.n) _ _ _ _ _ _ _ _ _ _ _ c.before.before.before.loop-written.invariant.0 (omega arith) _ (rw (sym c.before.is_ended.ensures, c.if-is_ended.true))
     ∙ whole (request_of a.c a.d a.ops.now a.n) a.saved a.buffer.now a.answers.now a.log.now)
     (λ c. search rules)
     (λ c. search rules)
     (λ c.
     let a = c.before.before.before.before.before.before.before.before.args in
-    full (request_of a.c a.d a.ops.now a.n) _ _ _ _ _ _ _ _ _ _ _ c.before.before.before.loop.invariant.0 (omega arith) _ (rw (sym c.before.is-ended.ensures, c.if3.false))
+    full (request_of a.c a.d a.ops.now a.n) _ _ _ _ _ _ _ _ _ _ _ c.before.before.before.loop-written.invariant.0 (omega arith) _ (rw (sym c.before.is_ended.ensures, c.if-is_ended.false))
     ∙ whole (request_of a.c a.d a.ops.now a.n) a.saved a.buffer.now a.answers.now a.log.now))

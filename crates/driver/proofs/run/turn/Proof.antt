@@ -17,14 +17,14 @@ turn_spec =
     (λ c. search rules)
     (λ c.
     let a = c.before.before.before.before.before.before.before.before.before.before.before.before.args in
-    goes a.c a.d a.v a.s c.before.before.before.before.before.before.make.result _ _
+    goes a.c a.d a.v a.s c.before.before.before.before.before.before.make-found.result _ _
     (made_of a.c a.d a.v a.s a.buffer.now a.answers.now a.used a.log.now a.at)
-    c.before.before.before.before.before.before.make.ensures c.before.if1.true _
-    (c.after.ensures ∙ within a.v a.s _ a.s c.before.before.before.before.before.before.before.before.before.before.before.before.requires.1 c.before.before.before.before.before.before.before.before.before.before.before.before.requires.2))
+    c.before.before.before.before.before.before.make-found.ensures c.before.if-found.true _
+    (c.after-next.ensures ∙ within a.v a.s _ a.s c.before.before.before.before.before.before.before.before.before.before.before.before.requires.1 c.before.before.before.before.before.before.before.before.before.before.before.before.requires.2))
     (λ c. search rules)
     (λ c. search rules)
     (λ c.
     let a = c.before.before.before.before.before.before.before.before.before.before.before.args in
-    stays a.c a.d a.v a.s c.before.before.before.before.before.make.result _ _
+    stays a.c a.d a.v a.s c.before.before.before.before.before.make-found.result _ _
     (made_of a.c a.d a.v a.s a.buffer.now a.answers.now a.used a.log.now a.at)
-    c.before.before.before.before.before.make.ensures c.if1.false))
+    c.before.before.before.before.before.make-found.ensures c.if-found.false))

@@ -14,17 +14,17 @@ cursor_at_spec =
     (λ c κs. search rules)
     (λ c κs.
     let start = c.before.before.before in
-    (small_total _ _ _ start.requires.0 (told c.before.is-transaction.ensures c.if1.true), start.requires.1))
+    (small_total _ _ _ start.requires.0 (told c.before.is_transaction.ensures c.if-is_transaction.true), start.requires.1))
     (λ c κs.
     let start = c.before.before.before.before in
     rw c.position_at.ensures (
-      few_operations _ _ _ start.requires.0 (told c.before.before.is-transaction.ensures c.before.if1.true),
+      few_operations _ _ _ start.requires.0 (told c.before.before.is_transaction.ensures c.before.if-is_transaction.true),
       omega (arith, start.requires.1, position_operation start.args.ops.now start.args.i),
       position_at start.args.ops.now start.args.i,
     ))
     (λ c.
     let start = c.before.before.before.before.before in
-    rw (c.list-cursor.ensures, c.before.position_at.ensures)
-    (cursor-is start.args.c start.args.ops.now start.args.n (told c.before.before.before.is-transaction.ensures c.before.before.if1.true) start.args.i))
+    rw (c.list_cursor.ensures, c.before.position_at.ensures)
+    (cursor-is start.args.c start.args.ops.now start.args.n (told c.before.before.before.is_transaction.ensures c.before.before.if-is_transaction.true) start.args.i))
     (λ c κs. search rules)
-    (λ c. transfer_cursor _ _ _ (told c.before.before.is-transaction.ensures c.before.if1.false) _ _ c.transfer-view.ensures))
+    (λ c. transfer_cursor _ _ _ (told c.before.before.is_transaction.ensures c.before.if-is_transaction.false) _ _ c.transfer_view.ensures))

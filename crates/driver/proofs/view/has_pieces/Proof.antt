@@ -10,6 +10,6 @@ has_pieces_spec =
     tie.close
     (tie.spec
     (λ c κs. search rules)
-    (λ c. nonempty_list _ _ _ (told c.before.is-transaction.ensures c.if1.true))
+    (λ c. nonempty_list _ _ _ (told c.before.is_transaction.ensures c.if-is_transaction.true))
     (λ c κs. search rules)
-    (λ c. rw (of_transfer _ _ _ (told c.before.before.is-transaction.ensures c.before.if1.false), c.transfer-count.ensures)))
+    (λ c. rw (of_transfer _ _ _ (told c.before.before.is_transaction.ensures c.before.if-is_transaction.false), c.transfer_count.ensures)))

@@ -12,8 +12,8 @@ is_there_spec =
     (λ c κs. search rules)
     (λ c.
     let a = c.before.before.before.args in
-    list_there a.c a.ops.now a.n a.i a.k (told c.before.is-transaction.ensures c.if1.true) c.before.before.before.requires.1)
+    list_there a.c a.ops.now a.n a.i a.k (told c.before.is_transaction.ensures c.if-is_transaction.true) c.before.before.before.requires.1)
     (λ c κs. search rules)
     (λ c.
     let a = c.before.before.before.before.args in
-    rw (of_transfer _ _ _ (told c.before.before.is-transaction.ensures c.before.if1.false), c.transfer-count.ensures) (first_there a.i _)))
+    rw (of_transfer _ _ _ (told c.before.before.is_transaction.ensures c.before.if-is_transaction.false), c.transfer_count.ensures) (first_there a.i _)))

@@ -14,4 +14,4 @@ joined_spec =
     (λ c. search rules)
     (λ c κs. search rules)
     (λ c κs. search rules)
-    (λ c. rw (← c.before.op-reads.ensures, ne_eqb _ 0 c.before.before.if1.false) c.alike.ensures))
+    (λ c. rw (← c.before.op_reads.ensures, ne_eqb _ 0 c.before.before.if-k-eq0.false) c.alike.ensures))

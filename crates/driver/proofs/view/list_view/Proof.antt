@@ -14,7 +14,7 @@ list_view_spec =
     (λ c κs. search rules)
     (λ c.
     let a = c.before.before.before.args in
-    omega (arith, c.before.op-length.ensures, get_lt (get_or a.ops.now a.position.operation 0) operation_length))
+    omega (arith, c.before.op_length-length.ensures, get_lt (get_or a.ops.now a.position.operation 0) operation_length))
     (λ c κs. search rules)
     (λ c. search rules)
     (λ c κs. search rules)

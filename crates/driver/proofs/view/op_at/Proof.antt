@@ -12,4 +12,4 @@ op_at_spec =
     (λ c. search rules)
     (λ c. search rules)
     (λ c. search rules)
-    (λ c. sym (get_or-eq_default c.before.args.ops.now 0 c.if1.false)))
+    (λ c. sym (get_or-eq_default c.before.args.ops.now 0 c.if-k-ops.false)))

@@ -9,4 +9,4 @@ op_length_spec =
     (tie.spec
     (λ c κs. search rules)
     (λ c κs. search rules)
-    (λ c. rw (← c.before.op-at.ensures) c.length.ensures))
+    (λ c. rw (← c.before.op_at.ensures) c.length.ensures))

@@ -9,4 +9,4 @@ op_reads_spec =
     (tie.spec
     (λ c κs. search rules)
     (λ c κs. search rules)
-    (λ c. rw (← c.before.op-at.ensures) c.is_read.ensures))
+    (λ c. rw (← c.before.op_at.ensures) c.is_read.ensures))

@@ -18,9 +18,9 @@ position_after_spec =
     (λ c.
     let a = c.before.before.before.before.before.before.before.args in
     rw (lt-ltb (a.p.at + 255) (op_at a.ops.now a.p.operation).size
-    (omega (arith, c.before.if1.true, c.before.before.op-length.ensures))))
+    (omega (arith, c.before.if-p-op_length.true, c.before.before.op_length.ensures))))
     (λ c. search rules)
     (λ c.
     let a = c.before.before.before.before.before.before.before.args in
     rw (le-ltb (a.p.at + 255) (op_at a.ops.now a.p.operation).size
-    (omega (arith, c.before.if1.false, c.before.before.op-length.ensures)))))
+    (omega (arith, c.before.if-p-op_length.false, c.before.before.op_length.ensures)))))
