@@ -19,12 +19,12 @@ pub loop-left-preserved : goal.loop-left-preserved
 loop-left-preserved c =
     let full = sym c.is_full.ensures ∙ c.if-not-is_full.false in (
       turn_used c.args.form c.args.d c.args.ops.now c.args.answers.now c.loop-left.left (as_driven c.loop-left.t c.loop-left.buffer c.loop-left.out) (as_driven c.piece-t.result c.piece-t.new.buffer c.piece-t.new.out)
-    c.piece-t.ensures c.loop-left-test.true c.loop-left.invariant.0,
+          c.piece-t.ensures c.loop-left-test.true c.loop-left.invariant.0,
       turn_written c.args.form c.args.d c.args.ops.now c.args.answers.now c.loop-left.left (as_driven c.loop-left.t c.loop-left.buffer c.loop-left.out) (as_driven c.piece-t.result c.piece-t.new.buffer c.piece-t.new.out)
-    c.piece-t.ensures c.loop-left-test.true full c.loop-left.invariant.1,
+          c.piece-t.ensures c.loop-left-test.true full c.loop-left.invariant.1,
       search rules,
       search rules,
       full,
       turn_goes c.args.form c.args.d c.args.ops.now c.args.answers.now c.loop-left.left (as_driven c.loop-left.t c.loop-left.buffer c.loop-left.out) (as_driven c.piece-t.result c.piece-t.new.buffer c.piece-t.new.out)
-    c.piece-t.ensures c.loop-left-test.true _ c.loop-left.invariant.4 c.loop-left.invariant.5 full,
+          c.piece-t.ensures c.loop-left-test.true _ c.loop-left.invariant.4 c.loop-left.invariant.5 full,
     )
