@@ -1,4 +1,6 @@
 // The bench: a file of calls in, the text of what comes of them out. `text` equals the definition in specs/Text.antt.
+#![tactic(auto)]
+
 ghost use Rattle.std.specs.Prelude.{◌≡◌};
 ghost use Rattle.window.specs.Window.{as_shown, window_of};
 ghost use Rattle.bench.specs.Text.{file_text, EveryWhole};

@@ -1,4 +1,6 @@
 // Bench files: whether one is well made, and what each of its calls describes. Each function equals its definition in specs/.
+#![tactic(auto)]
+
 mod buffer;
 mod head;
 mod part;

@@ -1,4 +1,6 @@
 // A call driven to its end, with a log of fixed size, piece after piece.
+#![tactic(auto)]
+
 ghost use Rattle.std.specs.Prelude.{◌≡◌, ◌≤◌, length};
 ghost use Rattle.calls.specs.Joined.{reached_by, go_on};
 ghost use Rattle.calls.specs.Run.{run_of};

@@ -25,7 +25,7 @@ outcome_word Nack = codes "nack"
 outcome_word Stopped = codes "stopped"
 outcome_word ExpectedWrite = codes "expected-write"
 outcome_word ExpectedRead = codes "expected-read"
-outcome_word (EventRead n) = codes "event_read"
+outcome_word (EventRead n) = codes "event-read"
 outcome_word (EventWrite n) = codes "event-write"
 outcome_word EventStop = codes "event-stop"
 

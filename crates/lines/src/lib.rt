@@ -1,4 +1,6 @@
 // The lines that the bench prints, each put into a window on the whole text.
+#![tactic(auto)]
+
 ghost use Rattle.std.specs.Prelude.{◌≡◌};
 ghost use Rattle.numerals.specs.Numbers.{hex_of, decimal_of};
 ghost use Rattle.window.specs.Window.{laid, emit_of};

@@ -1,4 +1,6 @@
 // Numbers as text in ASCII: a number read and written, and a text cut into words.
+#![tactic(auto)]
+
 ghost use Rattle.std.specs.Prelude.{◌≡◌, ◌≤◌, ◌<◌, length};
 ghost use Rattle.numerals.specs.Numbers.{digit_of, number_of, is_hex, parsed_of, hex_digit_of, spelled_of, hex_of, significant_of, decimal_of};
 ghost use Rattle.numerals.specs.Words.{is_blank, blank_is, drop_while, first_word, after_word};

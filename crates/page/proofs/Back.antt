@@ -1,11 +1,10 @@
 -- What stands from column 31 on in the lines of an entry gives its value back. Assumes nothing.
-use Prim.Native.Nat.{ℕ, zero, suc, ◌+◌, ◌-◌, ◌^◌, ◌≤◌, ◌<◌}
+use Prim.Native.Nat.{ℕ, zero, suc, ◌+◌, ◌-◌, ◌^◌, ◌<◌}
 use native.Mathlib.Nat.{mod-eq_of_lt, le_refl}
 use mathlib.Core.Path.{◌≡◌, sym, ap, ◌∙◌}
 use mathlib.Core.Bool.{true, false, cond, ◌&&◌}
 use mathlib.Core.List.{List, [], ◌∷◌, ◌++◌, append-nil}
-use lib.Dec.{T, eqb, leb, lit≤}
-use lib.ListN.{length}
+use lib.Dec.{T, eqb, leb}
 use mir.Facts.{and_yes}
 use Rattle.fields.specs.Field.{Place, bit, inside, get_of, flag_of}
 use Rattle.numerals.specs.Numbers.{decimal_of}

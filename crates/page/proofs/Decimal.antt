@@ -3,7 +3,7 @@ use Prim.Native.Nat.{ℕ, zero, suc, ◌+◌, ◌*◌, ◌/◌, ◌%◌, ◌^◌
 use native.Mathlib.Nat.{pow-suc}
 use native.Mathlib.Omega.{arith}
 use mathlib.Core.Path.{◌≡◌, refl, ◌∙◌}
-use mathlib.Core.Bool.{Bool, true, false, cond, not, and_false}
+use mathlib.Core.Bool.{Bool, true, false, cond, not, and-false}
 use mathlib.Core.List.{List, [], ◌∷◌, ◌++◌}
 use lib.Dec.{T, eqb, leb}
 use mir.Facts.{and_yes, yes_and}
@@ -21,7 +21,7 @@ digit_back d h = rw (lt-ltb d 10 h, le-ltb (48 + d) 48 (omega arith), lt-ltb (48
 digit_solid : (d : ℕ) → d < 10 → is_blank (hex_digit_of d) ≡ false
 unfolding hex_digit_of is_blank
 digit_solid d h =
-    rw (lt-ltb d 10 h, ne_eqb (48 + d) 32 (λ e. omega arith), lt-leb (48 + d) 13 (omega arith)) (and_false (leb 9 (48 + d)))
+    rw (lt-ltb d 10 h, ne_eqb (48 + d) 32 (λ e. omega arith), lt-leb (48 + d) 13 (omega arith)) (and-false (leb 9 (48 + d)))
 
 -- ---- the number of the digits
 value_append : (base v : ℕ) (s t : List ℕ) → value_after base v (s ++ t) ≡ value_after base (value_after base v s) t

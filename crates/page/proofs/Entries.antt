@@ -1,5 +1,5 @@
 -- The text of an entry: its head, its tokens on lines, and how much it is. Assumes nothing.
-use Prim.Native.Nat.{ℕ, zero, suc, ◌+◌, ◌-◌, ◌≤◌, ◌<◌}
+use Prim.Native.Nat.{ℕ, suc, ◌+◌, ◌-◌, ◌≤◌}
 use native.Mathlib.Omega.{arith}
 use Prim.Native.String.{String}
 use mathlib.Core.Path.{◌≡◌, refl, sym, ap, ◌∙◌}
@@ -20,7 +20,7 @@ use Rattle.window.specs.Window.{Laid, laid, start_of, emit_of}
 use Rattle.window.specs.declared.Cursor.{Cursor}
 use Rattle.window.proofs.Laid.{then, emit_append, emit_none, left_out}
 use Rattle.page.specs.Page.{access_of, spaces, filled, head_of, lines_from, register_lines, access_lines, entry_lines, text_of}
-use Rattle.page.specs.Put.{Put, ending, room_put, add_put, token_put, tokens_put, below, bits_put, flag_put, number_put, done_of, Labelled, label_of, labels_of, fitting, field_put, fields_put, name_of}
+use Rattle.page.specs.Put.{Put, ending, room_put, add_put, token_put, tokens_put, below, bits_put, flag_put, number_put, done_of, label_of, labels_of, fitting, field_put, fields_put, name_of}
 use Rattle.page.specs.Tokens.{Token, flag_tokens, number_tokens, field_tokens, bit_tokens, above, tokens_below, tokens_of}
 use Rattle.page.specs.declared.Access.{Access}
 use Rattle.page.specs.declared.Access.TheVariants.{Read, Write, Unknown}

@@ -1,10 +1,10 @@
 -- The loops over a log, of which `rest` is still to come and its first entry is entry n. Assumes nothing.
-use Prim.Native.Nat.{ℕ, suc, ◌+◌, ◌-◌, ◌*◌, ◌/◌, ◌%◌, ◌≤◌, ◌<◌}
+use Prim.Native.Nat.{ℕ, ◌+◌, ◌-◌, ◌%◌, ◌≤◌, ◌<◌}
 use native.Mathlib.Omega.{arith}
 use mathlib.Core.Path.{◌≡◌, refl, sym, ap, ap₂, ◌∙◌}
 use mathlib.Core.Bool.{Bool, true, false, cond}
 use mathlib.Core.List.{List, [], ◌∷◌, ◌++◌}
-use lib.Dec.{eqb, leb}
+use lib.Dec.{leb}
 use lib.ListN.{length, get_or, take, drop, length-append}
 use lib.Seq.{take_all}
 use borrow.Author.Tests.{le-leb, lt-leb, eq-eqb, ne_eqb, leb-true}
@@ -74,7 +74,7 @@ module _ (n : ℕ) (rest all : List ℕ) (K L : window.Laid) (done : emit_of (en
 
 -- ---- a log in bytes, whose entries are its words, two by two
 two_words : (b : List ℕ) → 8 ≤ length b → words_in b ≡ word_at b 0 ∷ word_at b 1 ∷ words_in (drop 8 b)
-two_words b h = go (words_in b) (rw (turns.in_words b) (omega arith)) ∙ ap (λ (ws : List ℕ). word_at b 0 ∷ word_at b 1 ∷ ws) (sym (turns.words-drop b 2 (omega arith)))
+two_words b h = go (words_in b) (rw (turns.in_words b) (omega arith)) ∙ ap (λ (ws : List ℕ). word_at b 0 ∷ word_at b 1 ∷ ws) (sym (turns.words_drop b 2 (omega arith)))
   where
     go : (ws : List ℕ) → 1 < length ws → ws ≡ get_or ws 0 0 ∷ get_or ws 1 0 ∷ drop 2 ws
     go [] l = absurd (omega arith)

@@ -1,4 +1,6 @@
 // The service page of a log: each entry on lines of 80 columns, with the names of its register and of its fields.
+#![tactic(auto)]
+
 ghost use Rattle.std.specs.Prelude.{◌≡◌, ◌%◌, ◌<◌};
 ghost use Rattle.page.specs.Page.{access_of, is_known, entries_text, page_of, fault_from, fault_of, is_sound, left, page_in, page_refusal, page_length};
 ghost use Rattle.page.specs.Put.{size_in};

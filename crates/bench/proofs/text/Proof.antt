@@ -16,4 +16,4 @@ text_spec =
     (λ c κs. search rules)
     (λ c κs. search rules)
     (λ c. search rules)
-    (λ c. let a = c.before.before.before.before.before.before.before.args in (windowed a.from (file_text a.form a.file.now) a.out.now _ (c.before.before.put-file.ensures ∙ ap (λ (p : Cursor). emit_of (file_text a.form a.file.now) (laid p a.out.now)) c.before.before.before.before.new.ensures), every_whole a.file.now)))
+    (λ c. let a = c.before.before.before.before.before.before.before.args in (windowed a.from (file_text a.form a.file.now) a.out.now _ (c.before.before.put_file-p.ensures ∙ ap (λ (p : Cursor). emit_of (file_text a.form a.file.now) (laid p a.out.now)) c.before.before.before.before.new.ensures), every_whole a.file.now)))

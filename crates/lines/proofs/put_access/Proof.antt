@@ -17,4 +17,4 @@ put_access_spec =
     (λ c κs. search rules)
     (λ c κs. search rules)
     (λ c. search rules)
-    (λ c. then _ _ _ _ _ (then _ _ _ _ _ (then _ _ _ _ _ (then _ _ _ _ _ c.before.before.before.before.before.before.before.before.before.before.before.before.before.before.before.before.before.before.put-letter.ensures c.before.before.before.before.before.before.before.before.before.before.before.before.before.before.put_byte.ensures) c.before.before.before.before.before.before.before.before.before.before.put-space.ensures) c.before.before.before.before.before.before.put_word.ensures) c.before.before.put-newline.ensures))
+    (λ c. then _ _ _ _ _ (then _ _ _ _ _ (then _ _ _ _ _ (then _ _ _ _ _ c.before.before.before.before.before.before.before.before.before.before.before.before.before.before.before.before.before.before.put_letter-p.ensures c.before.before.before.before.before.before.before.before.before.before.before.before.before.before.put_byte-p.ensures) c.before.before.before.before.before.before.before.before.before.before.put_space-p.ensures) c.before.before.before.before.before.before.put_word-p.ensures) c.before.before.put_newline.ensures))

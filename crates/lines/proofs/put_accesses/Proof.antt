@@ -10,10 +10,10 @@ use Rattle.lines.proofs.Texts.{entries_put, next_entry}
 use Rattle.lines.proofs.put_accesses.Statement.{statement}
 use Rattle.lines.proofs.put_accesses.Tie as tie
 
-abbrev invariant-loop : tie.invariant-loop
+abbrev invariant-loop : tie.invariant-loop-rest
 invariant-loop log out₀ q₀ rest₀ out q rest = (length out ≡ length out₀) × (emit_of (access_lines rest) (laid q out) ≡ emit_of (access_lines log) (laid q₀ out₀))
 
-abbrev decreases-loop : tie.decreases-loop
+abbrev decreases-loop : tie.decreases-loop-rest
 decreases-loop log out₀ q₀ rest₀ out q rest = length rest
 
 pub put_accesses_spec : {M : Type 1} → statement M

@@ -10,10 +10,10 @@ use Rattle.lines.proofs.Texts.{bytes_put_holds, next_byte}
 use Rattle.lines.proofs.put_bytes.Statement.{statement}
 use Rattle.lines.proofs.put_bytes.Tie as tie
 
-abbrev invariant-loop : tie.invariant-loop
+abbrev invariant-loop : tie.invariant-loop-rest
 invariant-loop bytes out₀ q₀ rest₀ out q rest = (length out ≡ length out₀) × (emit_of (bytes_text rest) (laid q out) ≡ emit_of (bytes_text bytes) (laid q₀ out₀))
 
-abbrev decreases-loop : tie.decreases-loop
+abbrev decreases-loop : tie.decreases-loop-rest
 decreases-loop bytes out₀ q₀ rest₀ out q rest = length rest
 
 pub put_bytes_spec : {M : Type 1} → statement M

@@ -18,4 +18,4 @@ put_call_spec =
     (λ c κs. search rules)
     (λ c κs. search rules)
     (λ c. search rules)
-    (λ c. rw (← c.before.before.before.before.before.before.before.before.before.before.before.before.before.before.before.before.value.ensures) (then _ _ _ _ _ (then _ _ _ _ _ (then _ _ _ _ _ (then _ _ _ _ _ c.before.before.before.before.before.before.before.before.before.before.before.before.before.before.before.before.before.before.before.put-call-start.ensures c.before.before.before.before.before.before.before.before.before.before.before.before.before.before.put-number-field.ensures) c.before.before.before.before.before.before.before.before.before.before.put-number-field2.ensures) c.before.before.before.before.before.before.put-number-field3.ensures) c.before.before.put-newline.ensures)))
+    (λ c. rw (← c.before.before.before.before.before.before.before.before.before.before.before.before.before.before.before.before.value.ensures) (then _ _ _ _ _ (then _ _ _ _ _ (then _ _ _ _ _ (then _ _ _ _ _ c.before.before.before.before.before.before.before.before.before.before.before.before.before.before.before.before.before.before.before.put_call_start-p.ensures c.before.before.before.before.before.before.before.before.before.before.before.before.before.before.put_number_field-p.ensures) c.before.before.before.before.before.before.before.before.before.before.put_number_field-p-2.ensures) c.before.before.before.before.before.before.put_number_field-p-3.ensures) c.before.before.put_newline.ensures)))

@@ -12,4 +12,4 @@ put_call_start_spec =
     (λ c κs. search rules)
     (λ c κs. search rules)
     (λ c. search rules)
-    (λ c. then _ _ _ _ _ (then _ _ _ _ _ c.before.before.before.before.before.before.before.before.before.before.put-decimal.ensures c.before.before.before.before.before.before.put-space.ensures) c.before.before.put-report.ensures))
+    (λ c. then _ _ _ _ _ (then _ _ _ _ _ c.before.before.before.before.before.before.before.before.before.before.put_decimal-p.ensures c.before.before.before.before.before.before.put_space-p.ensures) c.before.before.put_report.ensures))

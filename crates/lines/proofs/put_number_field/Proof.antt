@@ -11,4 +11,4 @@ put_number_field_spec =
     (λ c κs. search rules)
     (λ c κs. search rules)
     (λ c. search rules)
-    (λ c. then _ _ _ _ _ c.before.before.before.before.before.before.put-space.ensures c.before.before.put-decimal.ensures))
+    (λ c. then _ _ _ _ _ c.before.before.before.before.before.before.put_space-p.ensures c.before.before.put_decimal.ensures))

@@ -15,4 +15,4 @@ put_call_spec =
     (λ c κs. search rules)
     (λ c κs. search rules)
     (λ c. search rules)
-    (λ c. let a = c.before.before.before.before.before.before.before.before.before.before.before.before.before.before.before.args in called a.form a.n a.a a.head.now a.answers.now c.before.before.before.before.before.before.before.before.before.before.before.plain.result c.before.before.before.before.before.before.before.before.before.before.describe.result _ c.before.before.before.before.before.before.before.before.tell-call.result _ _ _ c.before.before.before.before.before.before.before.before.before.before.before.plain.ensures c.before.before.before.before.before.before.before.before.before.before.describe.ensures c.before.before.before.before.before.before.before.before.before.operations.ensures c.before.before.before.before.before.before.before.before.tell-call.ensures c.before.before.before.before.before.before.put-call.ensures c.before.before.show-call.ensures))
+    (λ c. let a = c.before.before.before.before.before.before.before.before.before.before.before.before.before.before.before.args in called a.form a.n a.a a.head.now a.answers.now c.before.before.before.before.before.before.before.before.before.before.before.plain-like.result c.before.before.before.before.before.before.before.before.before.before.describe-d.result _ c.before.before.before.before.before.before.before.before.tell_call-told.result _ _ _ c.before.before.before.before.before.before.before.before.before.before.before.plain-like.ensures c.before.before.before.before.before.before.before.before.before.before.describe-d.ensures c.before.before.before.before.before.before.before.before.before.operations-ops.ensures c.before.before.before.before.before.before.before.before.tell_call-told.ensures c.before.before.before.before.before.before.put_call-q.ensures c.before.before.show_call.ensures))

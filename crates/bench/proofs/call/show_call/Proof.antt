@@ -23,4 +23,4 @@ show_call_spec =
     (λ c. search (rules, counted))
     (λ c κs. search rules)
     (λ c. search rules)
-    (λ c. let a = c.before.before.before.before.before.before.before.before.before.before.before.before.before.before.args in c.before.before.before.show.ensures ∙ ap (λ (x : List ℕ). emit_of (run_text a.form a.n (run_for a.d a.ops.now x a.answers.now)) (laid a.p a.out.now)) (lent (whole_buffer a.n a.a a.head.now) c.before.before.before.before.before.before.before.before.before.room.result c.before.before.before.before.before.before.before.lay.result c.before.before.before.before.before.before.before.lay.new.1.1.1.0 c.before.before.before.before.before.before.before.lay.ensures c.before.before.before.before.before.before.before.before.before.room.ensures)))
+    (λ c. let a = c.before.before.before.before.before.before.before.before.before.before.before.before.before.before.args in c.before.before.before.show.ensures ∙ ap (λ (x : List ℕ). emit_of (run_text a.form a.n (run_for a.d a.ops.now x a.answers.now)) (laid a.p a.out.now)) (lent (whole_buffer a.n a.a a.head.now) c.before.before.before.before.before.before.before.before.before.room-buffer.result c.before.before.before.before.before.before.before.lay-size.result c.before.before.before.before.before.before.before.lay-size.new.out c.before.before.before.before.before.before.before.lay-size.ensures c.before.before.before.before.before.before.before.before.before.room-buffer.ensures)))

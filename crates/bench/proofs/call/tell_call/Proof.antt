@@ -21,4 +21,4 @@ tell_call_spec =
     (λ c. search (rules, room))
     (λ c. search (rules, counted))
     (λ c κs. search rules)
-    (λ c. let a = c.before.before.before.before.before.before.before.before.before.before.args in c.before.tell.ensures ∙ ap (λ (x : List ℕ). told_by (run_for a.d a.ops.now x a.answers.now)) (lent (whole_buffer a.n a.a a.head.now) c.before.before.before.before.before.before.room.result c.before.before.before.before.lay.result c.before.before.before.before.lay.new.1.1.1.0 c.before.before.before.before.lay.ensures c.before.before.before.before.before.before.room.ensures)))
+    (λ c. let a = c.before.before.before.before.before.before.before.before.before.before.args in c.before.tell.ensures ∙ ap (λ (x : List ℕ). told_by (run_for a.d a.ops.now x a.answers.now)) (lent (whole_buffer a.n a.a a.head.now) c.before.before.before.before.before.before.room-buffer.result c.before.before.before.before.lay-size.result c.before.before.before.before.lay-size.new.out c.before.before.before.before.lay-size.ensures c.before.before.before.before.before.before.room-buffer.ensures)))

@@ -9,10 +9,10 @@ use Rattle.bench.proofs.Texts.{calls_put, next_call}
 use Rattle.bench.proofs.file.put_calls.Statement.{statement}
 use Rattle.bench.proofs.file.put_calls.Tie as tie
 
-abbrev invariant-loop : tie.invariant-loop
+abbrev invariant-loop : tie.invariant-loop-left
 invariant-loop form n rows bodies out₀ q₀ left₀ table₀ rest₀ out q left table rest = (length out ≡ length out₀) × (emit_of (calls_text form left table rest) (laid q out) ≡ emit_of (calls_text form n rows bodies) (laid q₀ out₀))
 
-abbrev decreases-loop : tie.decreases-loop
+abbrev decreases-loop : tie.decreases-loop-left
 decreases-loop form n rows bodies out₀ q₀ left₀ table₀ rest₀ out q left table rest = left
 
 pub put_calls_spec : {M : Type 1} → statement M
@@ -28,6 +28,6 @@ put_calls_spec =
     (λ c κs. search rules)
     (λ c. search rules)
     (λ c. search rules)
-    (λ c. let a = c.before.before.before.before.before.before.before.before.before.before.before.before.args in let i = c.before.before.before.before.before.before.before.before.loop in (c.before.before.before.before.before.put-row.auto.1.1.1.1.0 ∙ i.invariant.0, rw (c.after2.ensures, c.before.after.ensures, c.before.before.body-size.ensures) (next_call a.form a.n a.rows.now a.bodies.now _ i.left i.table.now i.rest.now _ i.invariant.1 c.before.before.before.before.before.before.before.loop-test.true _ c.before.before.before.before.before.put-row.ensures)))
+    (λ c. let a = c.before.before.before.before.before.before.before.before.before.before.before.before.args in let i = c.before.before.before.before.before.before.before.before.loop-left in (c.before.before.before.before.before.put_row-q.auto.out ∙ i.invariant.0, rw (c.after-more.ensures, c.before.after-others.ensures, c.before.before.body_size.ensures) (next_call a.form a.n a.rows.now a.bodies.now _ i.left i.table.now i.rest.now _ i.invariant.1 c.before.before.before.before.before.before.before.loop-left-test.true _ c.before.before.before.before.before.put_row-q.ensures)))
     (λ c. search rules)
     (λ c. search (rules, calls_put)))

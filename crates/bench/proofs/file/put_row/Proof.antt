@@ -19,4 +19,4 @@ put_row_spec =
     (λ c κs. search rules)
     (λ c κs. search rules)
     (λ c. search rules)
-    (λ c. let a = c.before.before.before.before.before.before.before.before.before.before.before.before.before.before.args in rowed a.form a.rows.now a.bodies.now _ _ _ _ _ _ _ _ _ c.before.before.before.before.before.before.before.before.before.before.word.ensures c.before.before.before.before.before.before.before.before.before.word2.ensures c.before.before.before.before.before.before.before.before.word3.ensures c.before.before.before.before.before.before.before.word4.ensures c.before.before.before.before.before.before.first.ensures c.before.before.before.before.before.after.ensures c.before.before.before.before.first2.ensures c.before.before.put-call.ensures))
+    (λ c. let a = c.before.before.before.before.before.before.before.before.before.before.before.before.before.before.args in rowed a.form a.rows.now a.bodies.now _ _ _ _ _ _ _ _ _ c.before.before.before.before.before.before.before.before.before.before.word-n.ensures c.before.before.before.before.before.before.before.before.before.word-a.ensures c.before.before.before.before.before.before.before.before.word-head.ensures c.before.before.before.before.before.before.before.word-answers.ensures c.before.before.before.before.before.before.first.ensures c.before.before.before.before.before.after.ensures c.before.before.before.before.first-2.ensures c.before.before.put_call.ensures))

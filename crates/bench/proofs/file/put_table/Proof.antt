@@ -11,4 +11,4 @@ put_table_spec =
     (λ c κs. search rules)
     (λ c κs. search rules)
     (λ c. search rules)
-    (λ c. rw (← c.before.before.before.before.after.ensures) c.before.before.put-calls.ensures))
+    (λ c. rw (← c.before.before.before.before.after.ensures) c.before.before.put_calls.ensures))

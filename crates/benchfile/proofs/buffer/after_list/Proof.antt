@@ -11,4 +11,4 @@ after_list_spec =
     (λ c κs. search rules)
     (λ c. search rules)
     (λ c κs. search rules)
-    (λ c. rw (c.after2.ensures, c.before.word.ensures, c.before.before.after.ensures)))
+    (λ c. rw (c.after-2.ensures, c.before.word.ensures, c.before.before.after.ensures)))

@@ -11,4 +11,4 @@ lay_spec =
     (λ c κs. search rules)
     (λ c κs. search rules)
     (λ c. search rules)
-    (λ c. windowed 0 _ _ _ (rw c.before.before.before.before.new.ensures at c.before.before.put-buffer.ensures)))
+    (λ c. windowed 0 _ _ _ (rw c.before.before.before.before.new.ensures at c.before.before.put_buffer-p.ensures)))

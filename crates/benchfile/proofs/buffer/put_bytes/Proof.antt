@@ -10,12 +10,12 @@ use Rattle.benchfile.proofs.Bytes.{words-put}
 use Rattle.benchfile.proofs.buffer.put_bytes.Statement.{statement}
 use Rattle.benchfile.proofs.buffer.put_bytes.Tie as tie
 
-abbrev invariant-loop : tie.invariant-loop
+abbrev invariant-loop : tie.invariant-loop-i
 invariant-loop words out₀ q₀ i₀ i-end out q i =
     (i ≤ length words) × (length out ≡ length out₀)
     × (emit_of (low_bytes (drop i words)) (laid q out) ≡ emit_of (low_bytes words) (laid q₀ out₀))
 
-abbrev decreases-loop : tie.decreases-loop
+abbrev decreases-loop : tie.decreases-loop-i
 decreases-loop words out₀ q₀ i₀ i-end out q i = length words - i
 
 pub put_bytes_spec : {M : Type 1} → statement M

@@ -10,12 +10,12 @@ use Rattle.benchfile.proofs.Bytes.{all_operations, next_operation}
 use Rattle.benchfile.proofs.buffer.put_operations.Statement.{statement}
 use Rattle.benchfile.proofs.buffer.put_operations.Tie as tie
 
-abbrev invariant-loop : tie.invariant-loop
+abbrev invariant-loop : tie.invariant-loop-i
 invariant-loop ops bytes out₀ q₀ rest₀ i₀ i-end out q rest i =
     (i ≤ length ops) × (length out ≡ length out₀)
     × (emit_of (operations_bytes (drop i ops) (low_bytes rest)) (laid q out) ≡ emit_of (operations_bytes ops (low_bytes bytes)) (laid q₀ out₀))
 
-abbrev decreases-loop : tie.decreases-loop
+abbrev decreases-loop : tie.decreases-loop-i
 decreases-loop ops bytes out₀ q₀ rest₀ i₀ i-end out q rest i = length ops - i
 
 pub put_operations_spec : {M : Type 1} → statement M

@@ -16,6 +16,6 @@ config_spec =
     (λ c.
     let two = c.before.before in
     let none = two.before.before in
-    rw (eq-eqb _ _ none.before.if1.true, c.config.ensures)
-    (rw (c.before.word4.ensures, two.word3.ensures, two.before.word2.ensures, none.word.ensures)))
-    (λ c. rw (ne_eqb _ _ c.if1.false)))
+    rw (eq-eqb _ _ none.before.if-words-eq4.true, c.config-config.ensures)
+    (rw (c.before.word-then-words-eq4-3.ensures, two.word-then-words-eq4-2.ensures, two.before.word-then-words-eq4.ensures, none.word.ensures)))
+    (λ c. rw (ne_eqb _ _ c.if-words-eq4.false)))

@@ -16,4 +16,4 @@ describe_spec =
     (λ c κs. search rules)
     (λ c.
     let cut = c.before.before in
-    rw (c.address-mode.ensures, c.before.config.ensures, cut.after.ensures, cut.before.config-from.ensures, cut.before.before.word.ensures)))
+    rw (c.address_mode.ensures, c.before.config.ensures, cut.after.ensures, cut.before.config_from.ensures, cut.before.before.word.ensures)))

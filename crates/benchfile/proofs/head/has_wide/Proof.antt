@@ -8,10 +8,10 @@ use Rattle.benchfile.specs.Calls.{any_wide}
 use Rattle.benchfile.proofs.head.has_wide.Statement.{statement}
 use Rattle.benchfile.proofs.head.has_wide.Tie as tie
 
-abbrev invariant-loop : tie.invariant-loop
+abbrev invariant-loop : tie.invariant-loop-i
 invariant-loop words i₀ i-end i = (i ≤ length words) × (any_wide words ≡ any_wide (drop i words))
 
-abbrev decreases-loop : tie.decreases-loop
+abbrev decreases-loop : tie.decreases-loop-i
 decreases-loop words i₀ i-end i = length words - i
 
 pub has_wide_spec : {M : Type 1} → statement M

@@ -9,10 +9,10 @@ use Rattle.benchfile.specs.Calls.{write_bytes}
 use Rattle.benchfile.proofs.head.has_write_bytes.Statement.{statement}
 use Rattle.benchfile.proofs.head.has_write_bytes.Tie as tie
 
-abbrev invariant-loop : tie.invariant-loop
+abbrev invariant-loop : tie.invariant-loop-i
 invariant-loop ops n left₀ i₀ i-end left i = (i ≤ length ops) × (n + write_bytes (drop i ops) ≡ left + write_bytes ops)
 
-abbrev decreases-loop : tie.decreases-loop
+abbrev decreases-loop : tie.decreases-loop-i
 decreases-loop ops n left₀ i₀ i-end left i = length ops - i
 
 pub has_write_bytes_spec : {M : Type 1} → statement M

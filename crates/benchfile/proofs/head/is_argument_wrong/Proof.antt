@@ -12,4 +12,4 @@ is_argument_wrong_spec =
     (tie.spec
     (λ c. search (rules, tests))
     (λ c κs. search rules)
-    (λ c. rw c.has-argument.ensures (search (rules, tests))))
+    (λ c. rw c.has_argument.ensures (search (rules, tests))))

@@ -12,4 +12,4 @@ is_call_wrong_spec =
     (λ c κs. search rules)
     (λ c κs. search rules)
     (λ c κs. search rules)
-    (λ c. rw (c.is-head-wrong.ensures, c.before.is-argument-wrong.ensures, c.before.before.plain.ensures)))
+    (λ c. rw (c.is_head_wrong.ensures, c.before.is_argument_wrong.ensures, c.before.before.plain-like.ensures)))

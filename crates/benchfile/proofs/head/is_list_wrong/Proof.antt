@@ -15,4 +15,4 @@ is_list_wrong_spec =
     (λ c κs. search rules)
     (λ c.
     let cut = c.before.before in
-    rw (c.has-wide.ensures, c.before.has-write-bytes.ensures, cut.first.ensures, cut.before.after.ensures)))
+    rw (c.has_wide.ensures, c.before.has_write_bytes.ensures, cut.first.ensures, cut.before.after-bytes.ensures)))

@@ -13,4 +13,4 @@ is_transaction_wrong_spec =
     (λ c. search rules)
     (λ c κs. search rules)
     (λ c κs. search rules)
-    (λ c. rw (c.is-list-wrong.ensures, c.before.after.ensures, c.before.before.word.ensures)))
+    (λ c. rw (c.is_list_wrong.ensures, c.before.after.ensures, c.before.before.word.ensures)))

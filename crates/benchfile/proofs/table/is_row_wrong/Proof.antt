@@ -20,10 +20,10 @@ is_row_wrong_spec =
     let row = c.before.before in
     let cut = row.before.before in
     rw (
-      c.is-call-wrong.ensures,
-      c.before.word3.ensures,
-      row.word2.ensures,
-      row.before.body-size.ensures,
-      cut.first.ensures,
+      c.is_call_wrong.ensures,
+      c.before.word-3.ensures,
+      row.word-2.ensures,
+      row.before.body_size.ensures,
+      cut.first-head.ensures,
       cut.before.word.ensures,
     )))

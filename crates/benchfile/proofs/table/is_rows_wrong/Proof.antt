@@ -6,10 +6,10 @@ use Rattle.benchfile.proofs.Rows.{turns}
 use Rattle.benchfile.proofs.table.is_rows_wrong.Statement.{statement}
 use Rattle.benchfile.proofs.table.is_rows_wrong.Tie as tie
 
-abbrev invariant-loop : tie.invariant-loop
+abbrev invariant-loop : tie.invariant-loop-left
 invariant-loop n rows bodies left₀ table₀ rest₀ left table rest = rows_wrong n rows bodies ≡ rows_wrong left table rest
 
-abbrev decreases-loop : tie.decreases-loop
+abbrev decreases-loop : tie.decreases-loop-left
 decreases-loop n rows bodies left₀ table₀ rest₀ left table rest = left
 
 pub is_rows_wrong_spec : {M : Type 1} → statement M

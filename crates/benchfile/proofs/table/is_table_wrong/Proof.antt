@@ -16,4 +16,4 @@ is_table_wrong_spec =
     (λ c. search rules)
     (λ c κs. search rules)
     (λ c κs. search rules)
-    (λ c. rw (c.is-rows-wrong.ensures, c.before.after.ensures) (search (rules, tests))))
+    (λ c. rw (c.is_rows_wrong.ensures, c.before.after.ensures) (search (rules, tests))))

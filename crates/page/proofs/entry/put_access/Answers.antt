@@ -1,0 +1,7 @@
+-- An entry of no register has no lines.
+use Rattle.std.proofs.Common.{rules}
+use Rattle.page.proofs.Entries.{no_access}
+use Rattle.page.proofs.entry.put_access.Goals as goal
+
+pub returns-in-Unknown : goal.returns-in-Unknown
+returns-in-Unknown c = search (rules, no_access)
