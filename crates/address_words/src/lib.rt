@@ -1,5 +1,7 @@
 // A target's configuration as a bench file and a C caller tell it: four words, of which 0xFFFFFFFF is no secondary address and
 // no mask. Only here does that word mean so; in the core every word is an address.
+#![tactic(auto)]
+
 ghost use Rattle.std.specs.Prelude.{◌≡◌, cond, eqb};
 ghost use Rattle.calls.specs.Calls.{with_secondary, with_mask};
 ghost use Rattle.address_words.specs.Words.{none, mode_of, config_in};

@@ -1,4 +1,6 @@
 // An advance over bytes: answers are read and entries written piece by piece, through arrays of words.
+#![tactic(auto)]
+
 ghost use Rattle.std.specs.Prelude.{◌≡◌, true, ◌*◌, ◌/◌, ◌-◌, ◌≤◌, min, length, drop};
 ghost use Rattle.calls.specs.Joined.{is_full, as_reached, reached_by, go_on, rest_from};
 ghost use Rattle.calls.specs.Run.{as_final, final_of, run_of};

@@ -14,7 +14,7 @@ use Rattle.words.proofs.Round.{words_before, whole_words}
 use Rattle.words.proofs.Turns.{bytes_append}
 use Rattle.words.specs.Words.{words_from, words_in, word_at, bytes_of, Below}
 use Rattle.timing.proofs.Round as round
-use Rattle.timing.specs.Bands.{above, divider_of}
+use Rattle.timing.specs.Bands.{divider_of}
 use Rattle.timing.specs.Refusals.{timing_refusal_number}
 use Rattle.timing.specs.declared.Band.{Band}
 use Rattle.timing.specs.declared.I2cTiming.{I2cTiming}

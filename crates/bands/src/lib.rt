@@ -1,5 +1,7 @@
 // The timing of a bus from a kernel clock and a bus frequency, by rows of speed bands: document 01's five, or a table that a board's maker
 // supplies (document 02, R-4). Every table, clock and frequency has an answer, which is a numbered refusal where no timing is right.
+#![tactic(auto)]
+
 ghost use Rattle.std.specs.Prelude.{◌≡◌, ◌-◌, ◌/◌, ◌≤◌, length};
 ghost use Rattle.timing.specs.Bands.{row, band_of, held, fields_of, timing_of};
 ghost use Rattle.bands.specs.Bands.{sound, band_for, accepted, loaded_of, settled, shaped_in, in_row, by_row, by_found, timing_by};

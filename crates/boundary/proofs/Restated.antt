@@ -11,7 +11,6 @@ use Rattle.words.proofs.Turns.{in_words, length_bytes}
 use Rattle.calls.proofs.Every.{every_step}
 use Rattle.calls.proofs.Joined.{within}
 use Rattle.calls.proofs.Logic.{is_true, is_false}
-use Rattle.calls.specs.Advances.{given}
 use Rattle.calls.specs.Calls.{transaction, manual, receives, transmits}
 use Rattle.calls.specs.Outcomes.{waiting_number, refused_number, refusal_number, outcome_number, report_number, awaited_of}
 use Rattle.calls.specs.Refusals.{check_of, list_wrong, buffer_wrong}

@@ -132,7 +132,7 @@ untouched_at : (s : SavedCall) (before : List AdvanceCall) (C : AdvanceCall) (af
     RefusedUntouched (As (before ++ C ∷ after)) s → T (advances.refused (as_advance (advancing C))) →
     Untouched (as_advance (advancing C)) (saved_after (As before) s)
 untouched_at s [] C after x = x.0
-untouched_at s (D ∷ before) C after x = untouched_at _ before C after x.1
+untouched_at s (D ∷ before) C after x = untouched_at ((as_advance (advancing D)).result.saved) before C after x.1
 
 -- after a begin that returned 0
 -- the next access is a read of the register at that offset

@@ -1,6 +1,8 @@
 // The driver for C and Rust callers, under names with a prefix: functions on numbers, byte slices and arrays of numbers, so that their
 // signatures mean the same on every machine. `compare` and the
 // firmware link it, and include/huskerivory.h says the same to a C programmer.
+#![tactic(auto)]
+
 ghost use Rattle.std.specs.Prelude.{◌≡◌, length};
 ghost use Rattle.timing.specs.Bands.{timing_of};
 ghost use Rattle.timing.specs.Refusals.{timing_refusal_number};

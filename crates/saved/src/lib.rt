@@ -1,4 +1,6 @@
 // The saved call as bytes, and back. Each function equals its definition in specs/.
+#![tactic(auto)]
+
 ghost use Rattle.std.specs.Prelude.{◌≡◌};
 ghost use Rattle.saved.specs.Saved.{step_of, outcome_of, saved_as, saved_with, saved_in, written_to};
 

@@ -36,12 +36,12 @@ config_spec =
     (λ c.
     let e = c.before.before.before.before in
     let w = e.before.before.args in
-    c.with-mask.ensures
+    c.with_mask.ensures
     ∙ rw (
-      c.before.with-secondary.ensures,
-      c.before.before.own-address-mode.ensures,
-      c.before.before.before.address-mode.ensures,
-      e.own-address.ensures,
+      c.before.with_secondary.ensures,
+      c.before.before.own_address_mode-addressed.ensures,
+      c.before.before.before.address_mode.ensures,
+      e.own_address.ensures,
       e.before.new.ensures,
     )
     (set_unless w.own w.secondary w.mask (mode_of (not (eqb w.ten 0))) (eqb w.secondary none) (eqb w.mask none))))

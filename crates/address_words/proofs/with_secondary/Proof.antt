@@ -8,6 +8,6 @@ pub with_secondary_spec : {M : Type 1} → statement M
 with_secondary_spec =
     tie.close
     (tie.spec
-    (λ c. rw (eq-eqb _ _ c.if1.true))
+    (λ c. rw (eq-eqb _ _ c.if-word-eq-NONE.true))
     (λ c κs. search rules)
-    (λ c. rw (ne_eqb _ _ c.before.if1.false) c.secondary-address.ensures))
+    (λ c. rw (ne_eqb _ _ c.before.if-word-eq-NONE.false) c.secondary_address.ensures))

@@ -17,8 +17,8 @@ advance_spec =
     (λ c. search rules)
     (λ c. search rules)
     (λ c.
-    let read = c.before.before.before.before.before.before.before.before.before.before.before in
+    let read = c.before.before.before.before.before.before.before.before.before.before in
     let start = read.before.before.before.before.before.before.before in
     let a = start.args in
     read_through a.d a.ops.now a.t.saved a.buffer.now a.answers.now a.window.now a.log.now a.t.used _ _ _
-    start.requires read.decode-from.ensures c.before.before.before.before.advance.ensures))
+    start.requires read.decode_from-n.ensures c.before.before.before.before.advance.ensures))

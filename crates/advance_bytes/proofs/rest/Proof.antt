@@ -7,14 +7,13 @@ use native.Mathlib.Omega.{arith}
 use mathlib.Core.Path.{◌≡◌, refl, sym, ◌∙◌}
 use mathlib.Core.Bool.{true}
 use lib.ListN.{length}
-use borrow.Author.Tests.{not-true, not-false}
 use Rattle.calls.proofs.Reached.{some_left, none_left}
 use Rattle.calls.specs.Joined.{is_full, as_reached, rest_from}
 use Rattle.words.specs.Words.{words_in}
 use Rattle.advance_bytes.specs.Pieces.{in_bytes}
 use Rattle.advance_bytes.proofs.Pieces.{turn_used, turn_written, turn_less, turn_ends, turn_goes}
 
-abbrev invariant-loop : tie.invariant-loop
+abbrev invariant-loop : tie.invariant-loop-left
 invariant-loop d ops buffer₀ answers log₀ window₀ entries₀ t₀ left₀ buffer log window entries t left =
     (t.used ≤ length answers / 4) ×
     (t.written ≤ length log / 8) ×
@@ -26,7 +25,7 @@ invariant-loop d ops buffer₀ answers log₀ window₀ entries₀ t₀ left₀ 
     (is_full t.report ≡ true) ×
     (rest_from in_bytes d ops (words_in answers) left (as_reached t buffer log) ≡ rest_from in_bytes d ops (words_in answers) left₀ (as_reached t₀ buffer₀ log₀))
 
-abbrev decreases-loop : tie.decreases-loop
+abbrev decreases-loop : tie.decreases-loop-left
 decreases-loop d ops buffer₀ answers log₀ window₀ entries₀ t₀ left₀ buffer log window entries t left = left
 
 pub rest_spec : {M : Type 1} → statement M
@@ -40,55 +39,55 @@ rest_spec =
     (λ c. search rules)
     (λ c.
     let start = c.before.before.before.before.before.before.before in
-    (start.requires.0, start.requires.1, refl, refl, refl, c.before.before.large-window.ensures, c.before.large-log.ensures, start.requires.2, refl))
+    (start.requires.0, start.requires.1, refl, refl, refl, c.before.before.large_window-window.ensures, c.before.large_log-entries.ensures, start.requires.2, refl))
     (λ c. search rules)
     (λ c. search rules)
-    (λ c κs. let i = c.before.before.before.before.before.loop in (i.invariant.0, i.invariant.1, omega (arith, i.invariant.5, i.invariant.6)))
+    (λ c κs. let i = c.before.before.before.before.before.loop-left in (i.invariant.0, i.invariant.1, omega (arith, i.invariant.5, i.invariant.6)))
     (λ c κs. search rules)
     (λ c. search rules)
     (λ c. search rules)
     (λ c.
     let p = c.before.before.before.before.before.before.before.before in
-    let i = p.before.before.before.before.before.before.loop in
+    let i = p.before.before.before.before.before.before.loop-left in
     let a = p.before.before.before.before.before.before.before.before.before.before.before.before.before.before.args in
-    turn_ends a.d a.ops.now a.answers.now i.t i.buffer i.log p.piece.result _ _ (length i.entries / 2) i.left
-    p.piece.ensures i.invariant.2 p.piece.auto.1.1.1.1.1.0 i.invariant.1 _
-    (some_left in_bytes a.d a.ops.now (words_in a.answers.now) (as_reached i.t i.buffer i.log) _ i.left p.before.before.before.before.before.loop-test.true i.invariant.7 i.invariant.8)
-    (sym c.before.is-full.ensures ∙ not-true c.before.is-full.result c.if1.true))
+    turn_ends a.d a.ops.now a.answers.now i.t i.buffer i.log p.piece-t.result _ _ (length i.entries / 2) i.left
+    p.piece-t.ensures i.invariant.2 p.piece-t.auto.log i.invariant.1 _
+    (some_left in_bytes a.d a.ops.now (words_in a.answers.now) (as_reached i.t i.buffer i.log) _ i.left p.before.before.before.before.before.loop-left-test.true i.invariant.7 i.invariant.8)
+    (sym c.before.is_full.ensures ∙ c.if-not-is_full.true))
     (λ c.
     let p = c.before.before.before.before.before.before.before.before.before in
-    let i = p.before.before.before.before.before.before.loop in
+    let i = p.before.before.before.before.before.before.loop-left in
     let a = p.before.before.before.before.before.before.before.before.before.before.before.before.before.before.args in
-    turn_written a.d a.ops.now a.answers.now i.t i.buffer i.log p.piece.result _ _ (length i.entries / 2) i.left
-    p.piece.ensures i.invariant.2 p.piece.auto.1.1.1.1.1.0 i.invariant.1)
+    turn_written a.d a.ops.now a.answers.now i.t i.buffer i.log p.piece-t.result _ _ (length i.entries / 2) i.left
+    p.piece-t.ensures i.invariant.2 p.piece-t.auto.log i.invariant.1)
     (λ c.
     let p = c.before.before.before.before.before.before.before.before.before in
-    let i = p.before.before.before.before.before.before.loop in
+    let i = p.before.before.before.before.before.before.loop-left in
     let a = p.before.before.before.before.before.before.before.before.before.before.before.before.before.before.args in
-    let full = sym c.before.before.is-full.ensures ∙ not-false c.before.before.is-full.result c.before.if1.false in
-    turn_less a.d a.ops.now a.answers.now i.t i.buffer i.log p.piece.result _ _ (length i.entries / 2) i.left
-    p.piece.ensures i.invariant.2 p.piece.auto.1.1.1.1.1.0 i.invariant.1
-    (omega (arith, i.invariant.6)) p.before.before.before.before.before.loop-test.true full)
+    let full = sym c.before.before.is_full.ensures ∙ c.before.if-not-is_full.false in
+    turn_less a.d a.ops.now a.answers.now i.t i.buffer i.log p.piece-t.result _ _ (length i.entries / 2) i.left
+    p.piece-t.ensures i.invariant.2 p.piece-t.auto.log i.invariant.1
+    (omega (arith, i.invariant.6)) p.before.before.before.before.before.loop-left-test.true full)
     (λ c.
     let p = c.before.before.before.before.before.before.before.before.before in
-    let i = p.before.before.before.before.before.before.loop in
+    let i = p.before.before.before.before.before.before.loop-left in
     let a = p.before.before.before.before.before.before.before.before.before.before.before.before.before.before.args in
-    let full = sym c.before.before.is-full.ensures ∙ not-false c.before.before.is-full.result c.before.if1.false in (
-      turn_used a.d a.ops.now a.answers.now i.t i.buffer i.log p.piece.result _ _ (length i.entries / 2) i.left
-          p.piece.ensures i.invariant.2 p.piece.auto.1.1.1.1.1.0 i.invariant.1 i.invariant.0,
-      turn_written a.d a.ops.now a.answers.now i.t i.buffer i.log p.piece.result _ _ (length i.entries / 2) i.left
-          p.piece.ensures i.invariant.2 p.piece.auto.1.1.1.1.1.0 i.invariant.1,
+    let full = sym c.before.before.is_full.ensures ∙ c.before.if-not-is_full.false in (
+      turn_used a.d a.ops.now a.answers.now i.t i.buffer i.log p.piece-t.result _ _ (length i.entries / 2) i.left
+          p.piece-t.ensures i.invariant.2 p.piece-t.auto.log i.invariant.1 i.invariant.0,
+      turn_written a.d a.ops.now a.answers.now i.t i.buffer i.log p.piece-t.result _ _ (length i.entries / 2) i.left
+          p.piece-t.ensures i.invariant.2 p.piece-t.auto.log i.invariant.1,
       refl,
-      p.piece.auto.1.1.1.0 ∙ i.invariant.3,
-      p.piece.auto.1.1.1.1.1.0 ∙ i.invariant.4,
-      p.piece.auto.1.1.1.1.1.1.0 ∙ i.invariant.5,
-      p.piece.auto.1.1.1.1.1.1.1.0 ∙ i.invariant.6,
+      p.piece-t.auto.buffer ∙ i.invariant.3,
+      p.piece-t.auto.log ∙ i.invariant.4,
+      p.piece-t.auto.window ∙ i.invariant.5,
+      p.piece-t.auto.entries ∙ i.invariant.6,
       full,
-      turn_goes a.d a.ops.now a.answers.now i.t i.buffer i.log p.piece.result _ _ (length i.entries / 2) i.left
-          p.piece.ensures i.invariant.2 p.piece.auto.1.1.1.1.1.0 i.invariant.1 _
-          (some_left in_bytes a.d a.ops.now (words_in a.answers.now) (as_reached i.t i.buffer i.log) _ i.left p.before.before.before.before.before.loop-test.true i.invariant.7 i.invariant.8)
+      turn_goes a.d a.ops.now a.answers.now i.t i.buffer i.log p.piece-t.result _ _ (length i.entries / 2) i.left
+          p.piece-t.ensures i.invariant.2 p.piece-t.auto.log i.invariant.1 _
+          (some_left in_bytes a.d a.ops.now (words_in a.answers.now) (as_reached i.t i.buffer i.log) _ i.left p.before.before.before.before.before.loop-left-test.true i.invariant.7 i.invariant.8)
           full,
     ))
     (λ c. search rules)
     (λ c. search rules)
-    (λ c. none_left _ _ _ _ _ _ _ c.loop-test.false c.before.loop.invariant.8))
+    (λ c. none_left in_bytes _ _ _ _ _ _ c.loop-left-test.false c.before.loop-left.invariant.8))

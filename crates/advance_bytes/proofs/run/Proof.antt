@@ -18,16 +18,16 @@ run_spec =
     (λ c κs. search rules)
     (λ c. search rules)
     (λ c. search rules)
-    (λ c κs. (omega arith, omega arith, omega (arith, c.before.before.before.before.before.small-window.ensures, c.before.before.before.before.small-log.ensures)))
+    (λ c κs. (omega arith, omega arith, omega (arith, c.before.before.before.before.before.small_window-window.ensures, c.before.before.before.before.small_log-entries.ensures)))
     (λ c κs. search rules)
     (λ c κs.
     let p = c.before.before.before.before.before.before.before.before.before.before in
     let a = p.before.before.before.before.before.before.before.before.before.before.before.args in (
-      turn_used a.d a.ops.now a.answers.now (not_yet a.saved) a.buffer.now a.log.now p.piece.result _ _ (length p.before.before.before.before.before.small-log.result / 2) (length a.log.now / 8 - 0)
-          p.piece.ensures refl p.piece.auto.1.1.1.1.1.0 (omega arith) (omega arith),
-      turn_written a.d a.ops.now a.answers.now (not_yet a.saved) a.buffer.now a.log.now p.piece.result _ _ (length p.before.before.before.before.before.small-log.result / 2) (length a.log.now / 8 - 0)
-          p.piece.ensures refl p.piece.auto.1.1.1.1.1.0 (omega arith),
-      sym c.before.before.before.is-full.ensures ∙ c.before.before.if1.true,
+      turn_used a.d a.ops.now a.answers.now (not_yet a.saved) a.buffer.now a.log.now p.piece-t.result _ _ (length p.before.before.before.before.before.small_log-entries.result / 2) (length a.log.now / 8 - 0)
+          p.piece-t.ensures refl p.piece-t.auto.log (omega arith) (omega arith),
+      turn_written a.d a.ops.now a.answers.now (not_yet a.saved) a.buffer.now a.log.now p.piece-t.result _ _ (length p.before.before.before.before.before.small_log-entries.result / 2) (length a.log.now / 8 - 0)
+          p.piece-t.ensures refl p.piece-t.auto.log (omega arith),
+      sym c.before.before.before.is_full.ensures ∙ c.before.before.if-is_full.true,
     ))
     (λ c. search rules)
     (λ c. search rules)
@@ -35,16 +35,16 @@ run_spec =
     let p = c.before.before.before.before.before.before.before.before.before.before.before.before.before.before.before in
     let a = p.before.before.before.before.before.before.before.before.before.before.before.args in
     c.before.before.before.before.rest.ensures
-    ∙ turn_goes a.d a.ops.now a.answers.now (not_yet a.saved) a.buffer.now a.log.now p.piece.result _ _ (length p.before.before.before.before.before.small-log.result / 2) (length a.log.now / 8 - 0)
-    p.piece.ensures refl p.piece.auto.1.1.1.1.1.0 (omega arith) _
+    ∙ turn_goes a.d a.ops.now a.answers.now (not_yet a.saved) a.buffer.now a.log.now p.piece-t.result _ _ (length p.before.before.before.before.before.small_log-entries.result / 2) (length a.log.now / 8 - 0)
+    p.piece-t.ensures refl p.piece-t.auto.log (omega arith) _
     (first_whole a.d a.ops.now (words_in a.answers.now) a.saved a.buffer.now a.log.now)
-    (sym c.before.before.before.before.before.before.before.before.is-full.ensures ∙ c.before.before.before.before.before.before.before.if1.true))
+    (sym c.before.before.before.before.before.before.before.before.is_full.ensures ∙ c.before.before.before.before.before.before.before.if-is_full.true))
     (λ c. search rules)
     (λ c. search rules)
     (λ c.
     let p = c.before.before.before.before.before.before.before.before in
     let a = p.before.before.before.before.before.before.before.before.before.before.before.args in
-    turn_ends a.d a.ops.now a.answers.now (not_yet a.saved) a.buffer.now a.log.now p.piece.result _ _ (length p.before.before.before.before.before.small-log.result / 2) (length a.log.now / 8 - 0)
-    p.piece.ensures refl p.piece.auto.1.1.1.1.1.0 (omega arith) _
+    turn_ends a.d a.ops.now a.answers.now (not_yet a.saved) a.buffer.now a.log.now p.piece-t.result _ _ (length p.before.before.before.before.before.small_log-entries.result / 2) (length a.log.now / 8 - 0)
+    p.piece-t.ensures refl p.piece-t.auto.log (omega arith) _
     (first_whole a.d a.ops.now (words_in a.answers.now) a.saved a.buffer.now a.log.now)
-    (sym c.before.is-full.ensures ∙ c.if1.false)))
+    (sym c.before.is_full.ensures ∙ c.if-is_full.false)))

@@ -16,8 +16,8 @@ huskerivory_advance_spec =
     (λ c κs. search rules)
     (λ c. search rules)
     (λ c κs. search rules)
-    (λ c. decoded_room _ _ _ _ _ c.before.decode.ensures)
-    (λ c. decoded_count _ _ _ _ _ c.before.before.decode.ensures)
+    (λ c. decoded_room _ _ _ _ _ c.before.decode-n.ensures)
+    (λ c. decoded_count _ _ _ _ _ c.before.before.decode-n.ensures)
     (λ c κs. search rules)
     (λ c. search rules)
     (λ c. search rules)
@@ -29,9 +29,9 @@ huskerivory_advance_spec =
     let described = made.before in
     let entered = described.before.before in
     let start = entered.before.before.before.before in (
-      advanced.advance.ensures ∙ rw (listed start.args.operations.now _ _ _ made.list.ensures decoded.decode.ensures, described.describe.ensures),
+      advanced.advance.ensures ∙ rw (listed start.args.operations.now _ _ _ made.list-ops.ensures decoded.decode-n.ensures, described.describe-d.ensures),
       (
-        all_below 256 start.args.buffer.now (λ i. omega (arith, entered.before.slice-known2.given i)),
-        all_below 256 start.args.answers.now (λ i. omega (arith, entered.shared-slice-known2.given i)),
+        all_below 256 start.args.buffer.now (λ i. omega (arith, entered.before.slice_known-2-1.given i)),
+        all_below 256 start.args.answers.now (λ i. omega (arith, entered.shared_slice_known-2-1.given i)),
       ),
     )))

@@ -14,8 +14,8 @@ huskerivory_begin_spec =
     (λ c κs. search rules)
     (λ c. search rules)
     (λ c κs. search rules)
-    (λ c. decoded_room _ _ _ _ _ c.before.decode.ensures)
-    (λ c. decoded_count _ _ _ _ _ c.before.before.decode.ensures)
+    (λ c. decoded_room _ _ _ _ _ c.before.decode-n.ensures)
+    (λ c. decoded_count _ _ _ _ _ c.before.before.decode-n.ensures)
     (λ c κs. search rules)
     (λ c. search rules)
     (λ c.
@@ -24,4 +24,4 @@ huskerivory_begin_spec =
     let made = decoded.before.before in
     let described = made.before in
     let start = described.before.before.before.before in
-    begun.begin.ensures ∙ rw (listed start.args.operations.now _ _ _ made.list.ensures decoded.decode.ensures, described.describe.ensures)))
+    begun.begin.ensures ∙ rw (listed start.args.operations.now _ _ _ made.list-ops.ensures decoded.decode-n.ensures, described.describe-d.ensures)))

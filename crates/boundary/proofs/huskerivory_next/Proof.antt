@@ -14,12 +14,12 @@ huskerivory_next_spec =
     (λ c κs. search rules)
     (λ c. search rules)
     (λ c κs. search rules)
-    (λ c. decoded_room _ _ _ _ _ c.before.decode.ensures)
-    (λ c. decoded_count _ _ _ _ _ c.before.before.decode.ensures)
+    (λ c. decoded_room _ _ _ _ _ c.before.decode-n.ensures)
+    (λ c. decoded_count _ _ _ _ _ c.before.before.decode-n.ensures)
     (λ c κs. search rules)
     (λ c.
     let decoded = c.before.before.before in
     let made = decoded.before.before in
     let described = made.before in
     let start = described.before.before.before.before in
-    c.next.ensures ∙ rw (listed start.args.operations.now _ _ _ made.list.ensures decoded.decode.ensures, described.describe.ensures)))
+    c.next-access.ensures ∙ rw (listed start.args.operations.now _ _ _ made.list-ops.ensures decoded.decode-n.ensures, described.describe-d.ensures)))

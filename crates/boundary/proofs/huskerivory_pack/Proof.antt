@@ -16,5 +16,5 @@ huskerivory_pack_spec =
     (λ c κs. search rules)
     (λ c.
     let answered = c.before.before in
-    c.tell.ensures ∙ answered.packed-answer.ensures
-    ∙ ap packed_answer (answered.before.pack.ensures ∙ ap pack_of answered.before.before.timing_in.ensures)))
+    c.tell.ensures ∙ answered.packed_answer.ensures
+    ∙ ap packed_answer (answered.before.pack.ensures ∙ ap pack_of answered.before.before.timing_in-t.ensures)))

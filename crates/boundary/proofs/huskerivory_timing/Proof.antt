@@ -19,5 +19,5 @@ huskerivory_timing_spec =
     (λ c.
     let answered = c.before.before in
     let a = answered.before.before.args in
-    c.tell.ensures ∙ answered.timed-answer.ensures ∙ ap packed_timed answered.before.calc-timing-params.ensures
+    c.tell.ensures ∙ answered.timed_answer.ensures ∙ ap packed_timed answered.before.calc_timing_params.ensures
     ∙ packed (timing_of a.clock a.frequency) (timing_fits a.clock a.frequency (omega arith))))

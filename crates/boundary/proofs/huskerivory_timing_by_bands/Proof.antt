@@ -20,5 +20,5 @@ huskerivory_timing_by_bands_spec =
     let answered = c.before.before in
     let a = answered.before.before.before.args in
     let bs = bands_in a.bands.now in
-    c.tell.ensures ∙ answered.timed-answer.ensures ∙ ap packed_timed answered.before.timing-by.ensures
+    c.tell.ensures ∙ answered.timed_answer.ensures ∙ ap packed_timed answered.before.timing_by.ensures
     ∙ packed (timing_by bs a.clock a.frequency) (bands_fit bs a.clock a.frequency)))

@@ -10,4 +10,4 @@ huskerivory_unpack_spec =
     tie.close
     (tie.spec
     (λ c κs. search rules)
-    (λ c. ap fields_of c.before.unpack.ensures))
+    (λ c. ap fields_of c.before.unpack-t.ensures))

@@ -10,4 +10,4 @@ outcome_of_spec =
     (λ c κs. search rules)
     (λ c κs. search rules)
     (λ c κs. search rules)
-    (λ c. rw (c.outcome-at.ensures, c.before.before.get.ensures, c.before.get2.ensures)))
+    (λ c. rw (c.outcome_at.ensures, c.before.before.get.ensures, c.before.get-2.ensures)))

@@ -11,6 +11,6 @@ read_spec =
     (λ c κs. search rules)
     (λ c κs. search rules)
     (λ c κs. search rules)
-    (λ c. read_here _ c.before.before.before.if1.true _ _ _ c.before.before.step_of_lem.ensures c.before.outcome-of.ensures c.read-with.ensures)
+    (λ c. read_here _ c.before.before.before.if-bytes-eq-LENGTH.true _ _ _ c.before.before.step_of.ensures c.before.outcome_of.ensures c.read_with.ensures)
     (λ c κs. search rules)
-    (λ c. not_read _ c.before.if1.false _ c.no_call.ensures))
+    (λ c. not_read _ c.before.if-bytes-eq-LENGTH.false _ c.no_call.ensures))

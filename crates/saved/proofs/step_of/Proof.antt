@@ -9,4 +9,4 @@ step_of_spec =
     (tie.spec
     (λ c κs. search rules)
     (λ c κs. search rules)
-    (λ c. rw (c.step-at.ensures, c.before.get.ensures)))
+    (λ c. rw (c.step_at.ensures, c.before.get.ensures)))

@@ -18,6 +18,6 @@ write_spec =
     (λ c.
     let o = c.before.before.before.before.before.before.before.number.ensures in
     let v = c.before.before.before.before.before.before.value.ensures in
-    let t = c.before.before.before.before.before.step-number.ensures in
-    written_here _ c.before.before.before.before.before.before.before.before.if1.true _ _ _ c.before.before.encode.ensures (rw (o, v, t)))
-    (λ c. not_written _ c.if1.false _ _ refl))
+    let t = c.before.before.before.before.before.step_number.ensures in
+    written_here _ c.before.before.before.before.before.before.before.before.if-bytes-eq-LENGTH.true _ _ _ c.before.before.encode.ensures (rw (o, v, t)))
+    (λ c. not_written _ c.if-bytes-eq-LENGTH.false _ _ refl))

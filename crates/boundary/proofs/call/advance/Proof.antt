@@ -28,7 +28,7 @@ advance_spec =
     let kept = c.before.before.before.before.before in
     let ran = kept.before.before.before.before.before.before.before in
     let read = ran.before.before.before in
-    let a = read.before.before.before.before.before.before.before.args in
-    advances a.d a.ops.now a.saved.now a.buffer.now a.answers.now a.log.now ran.run.result _ _
-    (ran.run.ensures ∙ ap (λ (s : SavedCall). reached_by in_bytes (run_of a.d a.ops.now (length a.log.now / 8) s a.buffer.now (words_in a.answers.now)) a.log.now) read.read.ensures)
-    _ _ _ c.number.ensures c.before.answer-for.ensures kept.keep.ensures))
+    let a = read.before.before.before.before.before.before.args in
+    advances a.d a.ops.now a.saved.now a.buffer.now a.answers.now a.log.now ran.run-far.result _ _
+    (ran.run-far.ensures ∙ ap (λ (s : SavedCall). reached_by in_bytes (run_of a.d a.ops.now (length a.log.now / 8) s a.buffer.now (words_in a.answers.now)) a.log.now) read.read-call.ensures)
+    _ _ _ c.number.ensures c.before.answer_for.ensures kept.keep.ensures))

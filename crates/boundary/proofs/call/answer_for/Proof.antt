@@ -13,4 +13,4 @@ answer_for_spec =
     (λ c κs. search rules)
     (λ c.
     let told = c.before in
-    rw (told.before.before.wide.ensures, told.before.before.before.value.ensures, told.wide2.ensures, told.before.awaited.ensures)))
+    rw (told.before.before.wide-value.ensures, told.before.before.before.value.ensures, told.wide-awaited.ensures, told.before.awaited.ensures)))

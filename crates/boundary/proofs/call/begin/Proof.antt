@@ -12,4 +12,4 @@ begin_spec =
     (λ c κs. search rules)
     (λ c κs. search rules)
     (λ c. search rules)
-    (λ c. begins c.before.before.before.before.before.before.before.before.before.before.args.d c.before.before.before.before.before.before.before.before.before.before.args.ops.now _ c.before.before.before.before.before.before.before.before.before.before.args.saved.now _ _ _ c.before.before.before.before.before.before.begin.ensures c.before.before.before.before.verdict-number.ensures c.before.before.write.ensures))
+    (λ c. begins c.before.before.before.before.before.before.before.before.before.before.args.d c.before.before.before.before.before.before.before.before.before.before.args.ops.now _ c.before.before.before.before.before.before.before.before.before.before.args.saved.now _ _ _ c.before.before.before.before.before.before.begin-begun.ensures c.before.before.before.before.verdict_number-n.ensures c.before.before.write.ensures))

@@ -10,5 +10,5 @@ configuration_spec =
     (tie.spec
     (λ c κs. search rules)
     (λ c κs. search rules)
-    (λ c. yes _ _ (told c.before.before.is-configured.ensures c.before.if1.true) (rw c.config.ensures))
+    (λ c. yes _ _ (told c.before.before.is_configured.ensures c.before.if-is_configured.true) (rw c.config-config.ensures))
     (λ c. search (told, no)))

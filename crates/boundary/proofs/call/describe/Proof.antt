@@ -9,4 +9,4 @@ describe_spec =
     (tie.spec
     (λ c κs. search rules)
     (λ c κs. search rules)
-    (λ c. rw (c.described-by.ensures, c.before.told.ensures)))
+    (λ c. rw (c.described_by.ensures, c.before.told.ensures)))

@@ -9,4 +9,4 @@ described_by_spec =
     (tie.spec
     (λ c κs. search rules)
     (λ c κs. search rules)
-    (λ c. rw (c.before.before.configuration.ensures, c.address-mode.ensures)))
+    (λ c. rw (c.before.before.configuration.ensures, c.address_mode.ensures)))

@@ -9,7 +9,7 @@ keep_spec =
     tie.close
     (tie.spec
     (λ c κs. search rules)
-    (λ c. left c.before.is-refusal.result c.before.before.before.args.report c.before.before.before.args.saved.now c.before.is-refusal.ensures c.if1.true c.before.before.before.args.next)
+    (λ c. left c.before.is_refusal.result c.before.before.before.args.report c.before.before.before.args.saved.now c.before.is_refusal.ensures c.if-is_refusal.true c.before.before.before.args.next)
     (λ c κs. search rules)
     (λ c. search rules)
-    (λ c. kept c.before.before.before.before.before.is-refusal.result c.before.before.before.before.before.before.before.args.report c.before.before.before.before.before.before.before.args.saved.now c.before.before.before.before.before.is-refusal.ensures c.before.before.before.before.if1.false c.before.before.before.before.before.before.before.args.next _ c.before.before.write.ensures))
+    (λ c. kept c.before.before.before.before.before.is_refusal.result c.before.before.before.before.before.before.before.args.report c.before.before.before.before.before.before.before.args.saved.now c.before.before.before.before.before.is_refusal.ensures c.before.before.before.before.if-is_refusal.false c.before.before.before.before.before.before.before.args.next _ c.before.before.write.ensures))

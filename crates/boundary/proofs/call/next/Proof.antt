@@ -10,4 +10,4 @@ next_spec =
     (λ c κs. search rules)
     (λ c κs. search rules)
     (λ c κs. search rules)
-    (λ c. rw (c.access-answer.ensures, c.before.next-access.ensures, c.before.before.read.ensures)))
+    (λ c. rw (c.access_answer.ensures, c.before.next_access.ensures, c.before.before.read-call.ensures)))
