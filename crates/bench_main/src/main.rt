@@ -1,9 +1,13 @@
 // Prints the text of bench files: of each that an argument names or, without one, of standard input. With `--page` as the first argument
 // the accesses of each call stand as a service page.
+#![tactic(auto)]
+
 ghost use Rattle.std.specs.Prelude.{◌≡◌, length};
 
-use libc::{STDIN_FILENO, STDOUT_FILENO};
+use input::BUFFER;
 use lines::Form;
+use std::io::{Print, Read};
+use std::rt::HostRuntime;
 
 // A byte more than a bench file may have, by which a longer one is found out.
 const FILE: usize = 65_537;
@@ -17,9 +21,9 @@ fn room() -> [u8; FILE]
     [0; FILE]
 }
 
-fn write(out: &[u8], n: usize) -> bool {
+fn write(rt: &HostRuntime, out: &[u8], n: usize) -> bool {
     if n <= out.len() {
-        io::write_all(STDOUT_FILENO, &out[0..n])
+        rt.write_all(&out[0..n]).is_ok()
     } else {
         false
     }
@@ -30,19 +34,19 @@ fn lay(file: &[u8], form: Form, from: usize, out: &mut [u8; WINDOW]) -> usize {
     bench::text(file, form, from, out)
 }
 
-fn write_window(out: &[u8; WINDOW], n: usize) -> bool {
-    write(out, n)
+fn write_window(rt: &HostRuntime, out: &[u8; WINDOW], n: usize) -> bool {
+    write(rt, out, n)
 }
 
 // The windows of a text in turn, until one has room to spare or cannot be written. The loop is bounded, as a loop has to be:
 // no text has that many.
-fn print(file: &[u8], form: Form) {
+fn print(rt: &HostRuntime, file: &[u8], form: Form) {
     let mut out = [0u8; WINDOW];
     let mut from = 0;
     let mut turns = u32::MAX;
     while turns > 0 {
         let n = lay(file, form, from, &mut out);
-        if !write_window(&out, n) {
+        if !write_window(rt, &out, n) {
             return;
         }
         if n < WINDOW {
@@ -53,52 +57,49 @@ fn print(file: &[u8], form: Form) {
     }
 }
 
-fn print_input(form: Form, fd: i32, name: &[u8]) {
+fn print_input<R: Read>(rt: &HostRuntime, form: Form, reader: &mut R, name: &[u8]) {
     let mut file = room();
-    let got = input::read(fd, name, &mut file);
+    let got = input::read(rt, reader, name, &mut file);
     let n = got.n;
     if got.whole {
-        print(&file[..n], form);
+        print(rt, &file[..n], form);
     }
 }
 
-fn print_file(form: Form, path: &[u8]) {
-    let fd = os::open_read(path);
-    if fd < 0 {
-        os::fail(path);
-        return;
+fn print_file(rt: &HostRuntime, form: Form, path: &[u8]) {
+    match input::open(rt, path) {
+        Ok(mut file) => print_input(rt, form, &mut file, path),
+        Err(error) => input::fail(rt, path, error),
     }
-    print_input(form, fd, path);
-    libc::close(fd);
 }
 
-fn print_argument(form: Form, i: usize) {
-    let mut path = io::buffer();
-    let n = os::arg(i, &mut path);
-    print_file(form, &path[..n]);
+fn print_argument(rt: &HostRuntime, form: Form, i: usize) {
+    let mut path = [0u8; BUFFER];
+    let n = input::arg(rt, i, &mut path);
+    print_file(rt, form, &path[..n]);
 }
 
 // The arguments from `first` on.
-fn print_all(form: Form, first: usize) {
-    let count = os::arg_count();
+fn print_all(rt: &HostRuntime, form: Form, first: usize) {
+    let count = input::arg_count(rt);
     if count <= first {
-        print_input(form, STDIN_FILENO, b"standard input");
+        print_input(rt, form, &mut rt.stdin(), b"standard input");
     }
     for i in first..count {
-        print_argument(form, i);
+        print_argument(rt, form, i);
     }
 }
 
-fn is_page_asked() -> bool {
-    let mut option = io::buffer();
-    let n = os::arg(1, &mut option);
+fn is_page_asked(rt: &HostRuntime) -> bool {
+    let mut option = [0u8; BUFFER];
+    let n = input::arg(rt, 1, &mut option);
     check::same(&option[..n], b"--page")
 }
 
-fn main() {
-    if is_page_asked() {
-        print_all(Form::Page, 2);
+fn main(rt: HostRuntime) {
+    if is_page_asked(&rt) {
+        print_all(&rt, Form::Page, 2);
     } else {
-        print_all(Form::Lines, 1);
+        print_all(&rt, Form::Lines, 1);
     }
 }

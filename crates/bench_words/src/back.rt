@@ -1,6 +1,7 @@
 // A bench file as text: laid out for a person where the bodies are as long as the table of contents says, else as bare words.
 use crate::{names, show};
 use benchfile::{after, body_size, first, word};
+use std::rt::HostRuntime;
 
 // The most words of a body on a line.
 const ACROSS: usize = 8;
@@ -31,93 +32,93 @@ fn is_as_told(words: &[u32], count: u32) -> bool {
 }
 
 // Small words of a head are bytes, counts and lengths, which read best in decimal.
-fn show_word(n: u32, hex: bool) {
+fn show_word(rt: &HostRuntime, n: u32, hex: bool) {
     if hex || n >= 65_536 {
-        show::hex(n);
+        show::hex(rt, n);
     } else {
-        show::decimal(n as u64);
+        show::decimal(rt, n as u64);
     }
 }
 
 // What separates a word from the `before` words that precede it.
-fn show_gap(before: usize) {
+fn show_gap(rt: &HostRuntime, before: usize) {
     if before % ACROSS > 0 {
-        show::text(b" ");
+        show::text(rt, b" ");
     } else if before > 0 {
-        show::text(b"\n");
+        show::text(rt, b"\n");
     }
 }
 
-fn show_words(words: &[u32], hex: bool) {
+fn show_words(rt: &HostRuntime, words: &[u32], hex: bool) {
     for i in 0..words.len() {
-        show_gap(i);
-        show_word(words[i], hex);
+        show_gap(rt, i);
+        show_word(rt, words[i], hex);
     }
     if words.len() > 0 {
-        show::text(b"\n");
+        show::text(rt, b"\n");
     }
 }
 
 // `# 3: transaction`, counted from 1.
-fn show_name(row: &[u32], place: u32) {
-    show::text(b"# ");
-    show::decimal(place as u64 + 1);
-    show::text(b": ");
-    names::show(word(row, 0));
-    show::text(b"\n");
+fn show_name(rt: &HostRuntime, row: &[u32], place: u32) {
+    show::text(rt, b"# ");
+    show::decimal(rt, place as u64 + 1);
+    show::text(rt, b": ");
+    names::show(rt, word(row, 0));
+    show::text(rt, b"\n");
 }
 
-fn show_column(row: &[u32], i: usize) {
-    show::decimal(word(row, i) as u64);
-    show::text(b" ");
+fn show_column(rt: &HostRuntime, row: &[u32], i: usize) {
+    show::decimal(rt, word(row, i) as u64);
+    show::text(rt, b" ");
 }
 
-fn show_row(row: &[u32], place: u32) {
-    show_column(row, 0);
-    show_column(row, 1);
-    show_column(row, 2);
-    show_column(row, 3);
-    show_name(row, place);
+fn show_row(rt: &HostRuntime, row: &[u32], place: u32) {
+    show_column(rt, row, 0);
+    show_column(rt, row, 1);
+    show_column(rt, row, 2);
+    show_column(rt, row, 3);
+    show_name(rt, row, place);
 }
 
-fn show_rows(words: &[u32], count: u32) {
+fn show_rows(rt: &HostRuntime, words: &[u32], count: u32) {
     for i in 0..count {
-        show_row(row(words, i), i);
+        show_row(rt, row(words, i), i);
     }
 }
 
-fn show_body(row: &[u32], place: u32, body: &[u32]) {
-    show::text(b"\n");
-    show_name(row, place);
+fn show_body(rt: &HostRuntime, row: &[u32], place: u32, body: &[u32]) {
+    show::text(rt, b"\n");
+    show_name(rt, row, place);
     let heads = word(row, 2) as usize;
-    show_words(first(body, heads), false);
-    show_words(after(body, heads), true);
+    show_words(rt, first(body, heads), false);
+    show_words(rt, after(body, heads), true);
 }
 
-fn show_bodies(words: &[u32], count: u32) {
+fn show_bodies(rt: &HostRuntime, words: &[u32], count: u32) {
     let mut rest = row(words, count);
     for i in 0..count {
         let n = body_size(row(words, i));
-        show_body(row(words, i), i, first(rest, n));
+        show_body(rt, row(words, i), i, first(rest, n));
         let next = after(rest, n);
         rest = next;
     }
 }
 
-fn show_calls(words: &[u32], count: u32) {
-    show::decimal(count as u64);
-    show::text(b" # calls: number, argument, heads, answers\n");
-    show_rows(words, count);
-    show_bodies(words, count);
+fn show_calls(rt: &HostRuntime, words: &[u32], count: u32) {
+    show::decimal(rt, count as u64);
+    show::text(rt, b" # calls: number, argument, heads, answers\n");
+    show_rows(rt, words, count);
+    show_bodies(rt, words, count);
 }
 
-fn show_file(words: &[u32]) {
+fn show_file(rt: &HostRuntime, words: &[u32]) {
     let count = word(words, 0);
     if is_as_told(words, count) {
-        show_calls(words, count);
+        show_calls(rt, words, count);
     } else {
-        show::text(b"# the lengths disagree\n");
-        show_words(words, true);
+        show::text(rt, b"# the lengths disagree\n");
+        show_words(rt, words, true);
     }
 }
 
@@ -126,12 +127,12 @@ fn decode(file: &[u8], room: &mut [u32; WORDS]) -> usize {
     words::decode(file, room)
 }
 
-fn show_room(room: &[u32; WORDS], n: usize) {
-    show_file(first(room, n));
+fn show_room(rt: &HostRuntime, room: &[u32; WORDS], n: usize) {
+    show_file(rt, first(room, n));
 }
 
-pub fn write_text(file: &[u8]) {
+pub fn write_text(rt: &HostRuntime, file: &[u8]) {
     let mut room = [0u32; WORDS];
     let n = decode(file, &mut room);
-    show_room(&room, n);
+    show_room(rt, &room, n);
 }

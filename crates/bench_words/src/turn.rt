@@ -1,6 +1,8 @@
 // The input, read whole, and the way that it is turned.
 use crate::{back, show, text};
 use input::Input;
+use std::io::Read;
+use std::rt::HostRuntime;
 
 // The most bytes of a text and of a bench file.
 const TEXT: usize = 1_048_576;
@@ -16,48 +18,53 @@ pub enum Way {
     ToText,
 }
 
-fn complain(name: &[u8], why: &[u8]) {
-    show::complain(name);
-    show::complain(b": ");
-    show::complain(why);
-    show::complain(b"\n");
+fn complain(rt: &HostRuntime, name: &[u8], why: &[u8]) {
+    show::complain(rt, name);
+    show::complain(rt, b": ");
+    show::complain(rt, why);
+    show::complain(rt, b"\n");
 }
 
-fn to_words(name: &[u8], bytes: &[u8]) {
+fn to_words(rt: &HostRuntime, name: &[u8], bytes: &[u8]) {
     if bytes.len() > TEXT {
-        complain(name, b"longer than 1 MiB");
+        complain(rt, name, b"longer than 1 MiB");
     } else {
-        text::write_words(bytes);
+        text::write_words(rt, bytes);
     }
 }
 
-fn to_text(name: &[u8], bytes: &[u8]) {
+fn to_text(rt: &HostRuntime, name: &[u8], bytes: &[u8]) {
     if bytes.len() > FILE {
-        complain(name, b"longer than 65,536 bytes");
+        complain(rt, name, b"longer than 65,536 bytes");
     } else if bytes.len() % 4 != 0 {
-        complain(name, b"its last word is not whole");
+        complain(rt, name, b"its last word is not whole");
     } else {
-        back::write_text(bytes);
+        back::write_text(rt, bytes);
     }
 }
 
 // The room goes by its array type to these two, so that nothing has to be shown of its length.
-fn read_room(fd: i32, name: &[u8], room: &mut [u8; ROOM]) -> Input {
-    input::read(fd, name, room)
+fn read_room<R: Read>(
+    rt: &HostRuntime,
+    reader: &mut R,
+    name: &[u8],
+    room: &mut [u8; ROOM],
+) -> Input {
+    input::read(rt, reader, name, room)
 }
 
-fn turn_room(way: Way, name: &[u8], room: &[u8; ROOM], n: usize) {
+fn turn_room(rt: &HostRuntime, way: Way, name: &[u8], room: &[u8; ROOM], n: usize) {
     let bytes = input::start(room, n);
     match way {
-        Way::ToWords => to_words(name, bytes),
-        Way::ToText => to_text(name, bytes),
+        Way::ToWords => to_words(rt, name, bytes),
+        Way::ToText => to_text(rt, name, bytes),
     }
 }
 
-pub fn turn(way: Way, fd: i32, name: &[u8]) {
+pub fn turn<R: Read>(rt: &HostRuntime, way: Way, reader: &mut R, name: &[u8]) {
     let mut room = [0u8; ROOM];
-    let input = read_room(fd, name, &mut room);
+    let input = read_room(rt, reader, name, &mut room);
     if input.whole {
-        turn_room(way, name, &room, input.n);
+        turn_room(rt, way, name, &room, input.n);
     }
 }

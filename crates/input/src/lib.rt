@@ -1,5 +1,13 @@
-// Input that is read whole, and the lines of a text.
-ghost use Rattle.io.specs.Counts.{IsPrefixLen};
+// Input that is read whole, what a program asks of the system, and the lines of a text.
+#![tactic(auto)]
+
+mod program;
+
+ghost use Rattle.std.specs.Counts.{IsPrefixLen};
+
+pub use program::{BUFFER, arg, arg_count, complain, fail, open};
+use std::io::Read;
+use std::rt::HostRuntime;
 
 // How many bytes came, and whether no read failed.
 #[derive(Clone, Copy)]
@@ -10,21 +18,19 @@ pub struct Input {
 
 // Puts the input at the start of `buf`, as far as there is room. A read that fails is said on standard error, with the
 // input's name.
-pub fn read(fd: i32, name: &[u8], buf: &mut [u8]) -> Input
+pub fn read<R: Read>(rt: &HostRuntime, reader: &mut R, name: &[u8], buf: &mut [u8]) -> Input
     ensures { IsPrefixLen result.n buf.new }
 {
     let mut n = 0;
     while n < buf.len() {
-        let got = libc::read(fd, &mut buf[n..]);
-        if got < 0 {
-            os::fail(name);
-            return Input { n, whole: false };
+        match reader.read(&mut buf[n..]) {
+            Ok(0) => return Input { n, whole: true },
+            Ok(more) => n += more,
+            Err(error) => {
+                fail(rt, name, error);
+                return Input { n, whole: false };
+            }
         }
-        let more = io::count(got, &buf[n..]);
-        if more == 0 {
-            return Input { n, whole: true };
-        }
-        n += more;
     }
     Input { n, whole: true }
 }

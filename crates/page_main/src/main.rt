@@ -1,10 +1,14 @@
 // Prints the service pages of logs, which are little-endian words: of each file that an argument names or, without one, of standard
 // input. What is wrong with a log is said on standard error, and it has no page then.
+#![tactic(auto)]
+
 ghost use Rattle.std.specs.Prelude.{◌≡◌, length};
 
-use input::Input;
-use libc::{STDERR_FILENO, STDIN_FILENO, STDOUT_FILENO};
+use input::{BUFFER, Input};
 use page::Fault;
+use std::io;
+use std::io::{Eprint, Print, Read};
+use std::rt::HostRuntime;
 use window::Cursor;
 
 // The longest log, and a byte more, by which a longer one is found out.
@@ -19,22 +23,22 @@ const WORDS: usize = 2048;
 
 const PAGE: usize = 414_720;
 
-fn complain(bytes: &[u8]) {
-    io::write_all(STDERR_FILENO, bytes);
+fn complain(rt: &HostRuntime, bytes: &[u8]) {
+    input::complain(rt, bytes);
 }
 
-fn say(name: &[u8], why: &[u8]) {
-    complain(name);
-    complain(b": ");
-    complain(why);
-    complain(b"\n");
+fn say(rt: &HostRuntime, name: &[u8], why: &[u8]) {
+    complain(rt, name);
+    complain(rt, b": ");
+    complain(rt, why);
+    complain(rt, b"\n");
 }
 
-fn say_entry(name: &[u8], n: usize) {
-    complain(name);
-    complain(b": entry ");
-    io::print_decimal(STDERR_FILENO, n as u64);
-    complain(b": no register has its code\n");
+fn say_entry(rt: &HostRuntime, name: &[u8], n: usize) {
+    complain(rt, name);
+    complain(rt, b": entry ");
+    let _ = rt.eprint(n);
+    complain(rt, b": no register has its code\n");
 }
 
 fn start_words(words: &[u32], n: usize) -> &[u32] {
@@ -59,13 +63,13 @@ fn lay_entries(words: &[u32; WORDS], n: usize, first: u32, out: &mut [u8; PAGE])
     lay(start_words(words, n), first, out)
 }
 
-fn write(out: &[u8; PAGE], n: usize) -> bool {
-    io::write_all(STDOUT_FILENO, input::start(out, n))
+fn write(rt: &HostRuntime, out: &[u8; PAGE], n: usize) -> io::Result<()> {
+    rt.write_all(input::start(out, n))
 }
 
 // The pages' parts in turn, until the log has no more words or cannot be written. The loop is bounded, as a loop has to be: no log has
 // that many.
-fn print(log: &[u8]) {
+fn print(rt: &HostRuntime, log: &[u8]) {
     let mut words = [0u32; WORDS];
     let mut out = [0u8; PAGE];
     let mut part: u32 = 0;
@@ -75,68 +79,70 @@ fn print(log: &[u8]) {
             return;
         }
         let size = lay_entries(&words, n, part * ENTRIES + 1, &mut out);
-        if !write(&out, size) {
-            os::fail(b"standard output");
+        if let Err(error) = write(rt, &out, size) {
+            input::fail(rt, b"standard output", error);
             return;
         }
         part += 1;
     }
 }
 
-fn print_sound(name: &[u8], log: &[u8]) {
+fn print_sound(rt: &HostRuntime, name: &[u8], log: &[u8]) {
     match page::fault_in(log) {
-        Fault::Nothing => print(log),
-        Fault::NotWhole => say(name, b"its last entry is not whole"),
-        Fault::UnknownCode(n) => say_entry(name, n),
+        Fault::Nothing => print(rt, log),
+        Fault::NotWhole => say(rt, name, b"its last entry is not whole"),
+        Fault::UnknownCode(n) => say_entry(rt, name, n),
     }
 }
 
-fn print_log(name: &[u8], log: &[u8]) {
+fn print_log(rt: &HostRuntime, name: &[u8], log: &[u8]) {
     if log.len() > LOG {
-        say(name, b"longer than 1 MiB");
+        say(rt, name, b"longer than 1 MiB");
     } else {
-        print_sound(name, log);
+        print_sound(rt, name, log);
     }
 }
 
-fn read_room(fd: i32, name: &[u8], room: &mut [u8; ROOM]) -> Input {
-    input::read(fd, name, room)
+fn read_room<R: Read>(
+    rt: &HostRuntime,
+    reader: &mut R,
+    name: &[u8],
+    room: &mut [u8; ROOM],
+) -> Input {
+    input::read(rt, reader, name, room)
 }
 
-fn print_room(name: &[u8], room: &[u8; ROOM], n: usize) {
-    print_log(name, input::start(room, n));
+fn print_room(rt: &HostRuntime, name: &[u8], room: &[u8; ROOM], n: usize) {
+    print_log(rt, name, input::start(room, n));
 }
 
-fn print_input(fd: i32, name: &[u8]) {
+fn print_input<R: Read>(rt: &HostRuntime, reader: &mut R, name: &[u8]) {
     let mut room = [0u8; ROOM];
-    let input = read_room(fd, name, &mut room);
+    let input = read_room(rt, reader, name, &mut room);
     if input.whole {
-        print_room(name, &room, input.n);
+        print_room(rt, name, &room, input.n);
     }
 }
 
-fn print_file(path: &[u8]) {
-    let fd = os::open_read(path);
-    if fd < 0 {
-        os::fail(path);
-        return;
+fn print_file(rt: &HostRuntime, path: &[u8]) {
+    match input::open(rt, path) {
+        Ok(mut file) => print_input(rt, &mut file, path),
+        Err(error) => input::fail(rt, path, error),
     }
-    print_input(fd, path);
-    libc::close(fd);
 }
 
-fn print_argument(i: usize) {
-    let mut path = io::buffer();
-    let n = os::arg(i, &mut path);
-    print_file(input::start(&path, n));
+fn print_argument(rt: &HostRuntime, i: usize) {
+    let mut path = [0u8; BUFFER];
+    let n = input::arg(rt, i, &mut path);
+    print_file(rt, input::start(&path, n));
 }
 
-fn main() {
-    let count = os::arg_count();
+fn main(rt: HostRuntime) {
+    let count = input::arg_count(&rt);
     if count < 2 {
-        print_input(STDIN_FILENO, b"standard input");
+        print_input(&rt, &mut rt.stdin(), b"standard input");
     }
     for i in 1..count {
-        print_argument(i);
+        print_argument(&rt, i);
     }
 }

@@ -1,15 +1,20 @@
 // Prints the timing of a clock and a bus frequency, both in hertz: of the two arguments or, where
 // there are none, of each line of standard input. With `--bands FILE` before the two arguments it is
 // the timing by the bands of that file (rows.rt).
+#![tactic(auto)]
+
 mod file;
 mod rows;
 mod show;
 
-ghost use Rattle.io.specs.Counts.{IsPrefixLen};
+ghost use Rattle.std.specs.Counts.{IsPrefixLen};
 
-use libc::STDIN_FILENO;
+use input::BUFFER;
 use numerals::Parsed;
 use show::complain;
+use std::io;
+use std::io::Read;
+use std::rt::HostRuntime;
 
 // The longest line that is read; a longer one counts as not two numbers.
 const LINE: usize = 256;
@@ -28,12 +33,13 @@ enum Pair {
     NotNumbers,
 }
 
-fn answer(clock: u32, frequency: u32) {
+fn answer(rt: &HostRuntime, clock: u32, frequency: u32) -> io::Result<()> {
     show::answer(
+        rt,
         clock,
         frequency,
         bands::calc_timing_params(clock, frequency),
-    );
+    )
 }
 
 fn parse_two(first: &[u8], second: &[u8]) -> Pair {
@@ -56,32 +62,36 @@ fn parse_line(line: &[u8]) -> Pair {
     parse_two(numerals::word(line), numerals::word(rest))
 }
 
-fn refuse(text: &[u8]) {
-    complain(b"not two numbers: ");
-    complain(text);
-    complain(b"\n");
+fn refuse(rt: &HostRuntime, text: &[u8]) {
+    complain(rt, b"not two numbers: ");
+    complain(rt, text);
+    complain(rt, b"\n");
 }
 
-fn answer_line(line: &[u8]) {
+fn answer_line(rt: &HostRuntime, line: &[u8]) -> io::Result<()> {
     match parse_line(line) {
-        Pair::Numbers(clock, frequency) => answer(clock, frequency),
-        Pair::NotNumbers => refuse(line),
+        Pair::Numbers(clock, frequency) => answer(rt, clock, frequency),
+        Pair::NotNumbers => {
+            refuse(rt, line);
+            Ok(())
+        }
     }
 }
 
 // The answer to a line of `len` bytes, the first of which are `start`. An empty line and a comment
 // have none.
-fn answer_start(start: &[u8], len: usize) {
+fn answer_start(rt: &HostRuntime, start: &[u8], len: usize) -> io::Result<()> {
     if len == 0 {
-        return;
+        return Ok(());
     }
     if start.len() > 0 && start[0] == b'#' {
-        return;
+        return Ok(());
     }
     if len <= start.len() {
-        answer_line(&start[0..len]);
+        answer_line(rt, &start[0..len])
     } else {
-        refuse(start);
+        refuse(rt, start);
+        Ok(())
     }
 }
 
@@ -104,121 +114,134 @@ impl Line {
         self
     }
 
-    fn answer(self) {
+    fn answer(self, rt: &HostRuntime) -> io::Result<()> {
         let bytes = self.bytes;
         let len = self.len;
-        answer_start(&bytes, len);
+        answer_start(rt, &bytes, len)
     }
 
     // The line after a byte of input; a line feed ends a line and begins the next.
-    fn push(self, b: u8) -> Line {
+    fn push(self, rt: &HostRuntime, b: u8) -> io::Result<Line> {
         if b == b'\n' {
-            self.answer();
-            return Line::new();
+            self.answer(rt)?;
+            return Ok(Line::new());
         }
-        self.append(b)
+        Ok(self.append(b))
     }
 
-    fn push_all(self, input: &[u8]) -> Line {
+    fn push_all(self, rt: &HostRuntime, input: &[u8]) -> io::Result<Line> {
         let mut line = self;
         for i in 0..input.len() {
-            line = line.push(input[i]);
+            line = line.push(rt, input[i])?;
         }
-        line
+        Ok(line)
     }
 }
 
 // Puts input that has come at the start of `buf`, and says how many bytes: none at its end.
-fn read_input(buf: &mut [u8]) -> usize
+fn read_input(rt: &HostRuntime, buf: &mut [u8]) -> usize
     ensures { IsPrefixLen result buf.new }
 {
-    let got = libc::read(STDIN_FILENO, buf);
-    if got < 0 {
-        os::fail(b"standard input");
+    match rt.stdin().read(buf) {
+        Ok(n) => n,
+        Err(error) => {
+            input::fail(rt, b"standard input", error);
+            0
+        }
     }
-    io::count(got, buf)
 }
 
 // The loop is bounded, since the input may have no end: no run gets to make that many reads.
-fn answer_input() {
+fn answer_input(rt: &HostRuntime) -> io::Result<()> {
     let mut line = Line::new();
     let mut turns = u64::MAX;
     while turns > 0 {
-        let mut input = io::buffer();
-        let n = read_input(&mut input);
+        let mut input = [0u8; BUFFER];
+        let n = read_input(rt, &mut input);
         if n == 0 {
             break;
         }
-        line = line.push_all(&input[..n]);
+        line = line.push_all(rt, &input[..n])?;
         turns -= 1;
     }
-    line.answer();
+    line.answer(rt)
 }
 
-fn usage() {
-    complain(b"usage: timing_main [[--bands FILE] CLOCK FREQUENCY]\n");
+fn usage(rt: &HostRuntime) {
+    complain(rt, b"usage: timing_main [[--bands FILE] CLOCK FREQUENCY]\n");
 }
 
-fn refuse_two(first: &[u8], second: &[u8]) {
-    complain(b"not two numbers: ");
-    complain(first);
-    complain(b" ");
-    complain(second);
-    complain(b"\n");
+fn refuse_two(rt: &HostRuntime, first: &[u8], second: &[u8]) {
+    complain(rt, b"not two numbers: ");
+    complain(rt, first);
+    complain(rt, b" ");
+    complain(rt, second);
+    complain(rt, b"\n");
 }
 
 fn is_bands(argument: &[u8]) -> bool {
     check::same(argument, b"--bands")
 }
 
-fn answer_two(first: &[u8], second: &[u8]) {
+fn answer_two(rt: &HostRuntime, first: &[u8], second: &[u8]) -> io::Result<()> {
     match parse_two(first, second) {
-        Pair::Numbers(clock, frequency) => answer(clock, frequency),
-        Pair::NotNumbers => refuse_two(first, second),
+        Pair::Numbers(clock, frequency) => answer(rt, clock, frequency),
+        Pair::NotNumbers => {
+            refuse_two(rt, first, second);
+            Ok(())
+        }
     }
 }
 
-fn answer_by_bands(path: &[u8], first: &[u8], second: &[u8]) {
+fn answer_by_bands(rt: &HostRuntime, path: &[u8], first: &[u8], second: &[u8]) -> io::Result<()> {
     match parse_two(first, second) {
-        Pair::Numbers(clock, frequency) => file::answer(path, clock, frequency),
-        Pair::NotNumbers => refuse_two(first, second),
+        Pair::Numbers(clock, frequency) => file::answer(rt, path, clock, frequency),
+        Pair::NotNumbers => {
+            refuse_two(rt, first, second);
+            Ok(())
+        }
     }
 }
 
-fn answer_arguments() {
-    let mut first = io::buffer();
-    let mut second = io::buffer();
-    let n = os::arg(1, &mut first);
-    let m = os::arg(2, &mut second);
+fn answer_arguments(rt: &HostRuntime) -> io::Result<()> {
+    let mut first = [0u8; BUFFER];
+    let mut second = [0u8; BUFFER];
+    let n = input::arg(rt, 1, &mut first);
+    let m = input::arg(rt, 2, &mut second);
     if is_bands(&first[..n]) {
-        usage();
+        usage(rt);
+        Ok(())
     } else {
-        answer_two(&first[..n], &second[..m]);
+        answer_two(rt, &first[..n], &second[..m])
     }
 }
 
 // An argument that is longer than a path may be counts as empty.
-fn answer_option() {
-    let mut option = io::buffer();
-    let mut path = io::buffer();
-    let mut first = io::buffer();
-    let mut second = io::buffer();
-    let k = os::arg(1, &mut option);
-    let l = os::arg(2, &mut path);
-    let n = os::arg(3, &mut first);
-    let m = os::arg(4, &mut second);
+fn answer_option(rt: &HostRuntime) -> io::Result<()> {
+    let mut option = [0u8; BUFFER];
+    let mut path = [0u8; BUFFER];
+    let mut first = [0u8; BUFFER];
+    let mut second = [0u8; BUFFER];
+    let k = input::arg(rt, 1, &mut option);
+    let l = input::arg(rt, 2, &mut path);
+    let n = input::arg(rt, 3, &mut first);
+    let m = input::arg(rt, 4, &mut second);
     if is_bands(&option[..k]) {
-        answer_by_bands(&path[..l], &first[..n], &second[..m]);
+        answer_by_bands(rt, &path[..l], &first[..n], &second[..m])
     } else {
-        usage();
+        usage(rt);
+        Ok(())
     }
 }
 
-fn main() {
-    match os::arg_count() {
-        1 => answer_input(),
-        3 => answer_arguments(),
-        5 => answer_option(),
-        _ => usage(),
+fn main(rt: HostRuntime) -> io::Result<()> {
+    match input::arg_count(&rt) {
+        1 => answer_input(&rt),
+        3 => answer_arguments(&rt),
+        5 => answer_option(&rt),
+        _ => {
+            usage(&rt);
+            Ok(())
+        }
     }
 }

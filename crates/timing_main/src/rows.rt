@@ -2,8 +2,9 @@
 // blanks between them. `#` begins a comment, which ends with its line. The first line that is wrong is named on standard error.
 use crate::show::complain;
 use bands::Loaded;
-use libc::STDERR_FILENO;
 use numerals::Parsed;
+use std::io::Eprint;
+use std::rt::HostRuntime;
 
 // A row is six words, of which the last is its shape, and a table has at most sixteen rows.
 const WORDS: usize = 6;
@@ -30,50 +31,52 @@ enum Taken {
     Wrong(Fault),
 }
 
-fn say_number(column: usize) {
+fn say_number(rt: &HostRuntime, column: usize) {
     match column {
-        0 => complain(b"the upper frequency"),
-        1 => complain(b"the least clock"),
-        2 => complain(b"d"),
-        3 => complain(b"the sdadel divisor"),
-        _ => complain(b"the scldel divisor"),
+        0 => complain(rt, b"the upper frequency"),
+        1 => complain(rt, b"the least clock"),
+        2 => complain(rt, b"d"),
+        3 => complain(rt, b"the sdadel divisor"),
+        _ => complain(rt, b"the scldel divisor"),
     }
-    complain(b" is not a number from 0 to 4294967295");
+    complain(rt, b" is not a number from 0 to 4294967295");
 }
 
-fn say_word(column: usize) {
+fn say_word(rt: &HostRuntime, column: usize) {
     if column < SHAPE {
-        say_number(column);
+        say_number(rt, column);
     } else {
-        complain(b"the shape is neither equal nor double");
+        complain(rt, b"the shape is neither equal nor double");
     }
 }
 
-fn say_fault(fault: Fault) {
+fn say_fault(rt: &HostRuntime, fault: Fault) {
     match fault {
         Fault::WordCount => complain(
+            rt,
             b"a row is an upper frequency, a least clock, d, the sdadel divisor, the scldel divisor, and equal or double",
         ),
-        Fault::Word(column) => say_word(column),
+        Fault::Word(column) => say_word(rt, column),
         Fault::NotAccepted => complain(
+            rt,
             b"a row has an upper frequency above that of the row before it, d from 8 to 256, and divisors that are not 0",
         ),
-        Fault::TooMany => complain(b"more than 16 rows"),
+        Fault::TooMany => complain(rt, b"more than 16 rows"),
     }
 }
 
-fn say(name: &[u8], line: usize, fault: Fault) {
-    complain(name);
-    complain(b":");
-    io::print_decimal(STDERR_FILENO, line as u64);
-    complain(b": ");
-    say_fault(fault);
-    complain(b"\n");
+fn say(rt: &HostRuntime, name: &[u8], line: usize, fault: Fault) {
+    complain(rt, name);
+    complain(rt, b":");
+    let _ = rt.eprint(line);
+    complain(rt, b": ");
+    say_fault(rt, fault);
+    complain(rt, b"\n");
 }
 
-fn say_no_row(name: &[u8]) {
-    complain(name);
-    complain(b": no row\n");
+fn say_no_row(rt: &HostRuntime, name: &[u8]) {
+    complain(rt, name);
+    complain(rt, b": no row\n");
 }
 
 // A line has no more words than bytes.
@@ -166,14 +169,14 @@ fn take_line(line: &[u8], size: usize, table: &mut [u8; TABLE]) -> Taken {
 
 // Puts the table of a text at the start of `table`, and says how many bytes it has: none, which is no table, where something is wrong.
 // A text has no more lines than bytes.
-pub fn read(name: &[u8], text: &[u8], table: &mut [u8; TABLE]) -> usize {
+pub fn read(rt: &HostRuntime, name: &[u8], text: &[u8], table: &mut [u8; TABLE]) -> usize {
     let mut rest = text;
     let mut size = 0;
     for i in 0..text.len() {
         match take_line(input::content(rest), size, table) {
             Taken::Size(n) => size = n,
             Taken::Wrong(fault) => {
-                say(name, i + 1, fault);
+                say(rt, name, i + 1, fault);
                 return 0;
             }
         }
@@ -181,7 +184,7 @@ pub fn read(name: &[u8], text: &[u8], table: &mut [u8; TABLE]) -> usize {
         rest = next;
     }
     if size == 0 {
-        say_no_row(name);
+        say_no_row(rt, name);
     }
     size
 }

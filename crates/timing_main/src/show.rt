@@ -1,65 +1,67 @@
-// What is written: answers to standard output, complaints to standard error.
-use libc::{STDERR_FILENO, STDOUT_FILENO};
+// What is written: answers to standard output, complaints to standard error. An answer that cannot be written ends the program.
+use std::io;
+use std::io::Print;
+use std::rt::HostRuntime;
 use timing::{I2cTiming, Packed, RawTimingr, Timed, TimingRefusal};
 
-fn print(text: &[u8]) {
-    io::write_all(STDOUT_FILENO, text);
+fn print(rt: &HostRuntime, text: &[u8]) -> io::Result<()> {
+    rt.write_all(text)
 }
 
-pub fn complain(text: &[u8]) {
-    io::write_all(STDERR_FILENO, text);
+pub fn complain(rt: &HostRuntime, text: &[u8]) {
+    input::complain(rt, text);
 }
 
-fn print_number(n: u32) {
-    io::print_decimal(STDOUT_FILENO, n as u64);
+fn print_number(rt: &HostRuntime, n: u32) -> io::Result<()> {
+    rt.print(n)
 }
 
-fn print_field(name: &[u8], value: u8) {
-    print(name);
-    print_number(value as u32);
+fn print_field(rt: &HostRuntime, name: &[u8], value: u8) -> io::Result<()> {
+    print(rt, name)?;
+    print_number(rt, value as u32)
 }
 
-fn print_timing(t: I2cTiming, word: RawTimingr) {
-    print(b" 0x");
-    print(&numerals::hex(word.0));
-    print_field(b" presc ", t.presc);
-    print_field(b" scldel ", t.scldel);
-    print_field(b" sdadel ", t.sdadel);
-    print_field(b" sclh ", t.sclh);
-    print_field(b" scll ", t.scll);
+fn print_timing(rt: &HostRuntime, t: I2cTiming, word: RawTimingr) -> io::Result<()> {
+    print(rt, b" 0x")?;
+    print(rt, &numerals::hex(word.0))?;
+    print_field(rt, b" presc ", t.presc)?;
+    print_field(rt, b" scldel ", t.scldel)?;
+    print_field(rt, b" sdadel ", t.sdadel)?;
+    print_field(rt, b" sclh ", t.sclh)?;
+    print_field(rt, b" scll ", t.scll)
 }
 
-fn print_refusal(r: TimingRefusal) {
-    print(b" refused ");
-    print_number(r.number());
+fn print_refusal(rt: &HostRuntime, r: TimingRefusal) -> io::Result<()> {
+    print(rt, b" refused ")?;
+    print_number(rt, r.number())?;
     match r {
-        TimingRefusal::NoSpeed => print(b" no speed"),
-        TimingRefusal::ClockOver => print(b" clock over"),
-        TimingRefusal::Ratio => print(b" ratio"),
-        TimingRefusal::ClockSlow => print(b" clock slow"),
-        TimingRefusal::SpeedLow => print(b" speed low"),
-        TimingRefusal::NoSetup => print(b" no setup"),
-        TimingRefusal::FieldWide => print(b" field wide"),
-        TimingRefusal::BadBands => print(b" bad bands"),
-        TimingRefusal::NoBand => print(b" no band"),
+        TimingRefusal::NoSpeed => print(rt, b" no speed"),
+        TimingRefusal::ClockOver => print(rt, b" clock over"),
+        TimingRefusal::Ratio => print(rt, b" ratio"),
+        TimingRefusal::ClockSlow => print(rt, b" clock slow"),
+        TimingRefusal::SpeedLow => print(rt, b" speed low"),
+        TimingRefusal::NoSetup => print(rt, b" no setup"),
+        TimingRefusal::FieldWide => print(rt, b" field wide"),
+        TimingRefusal::BadBands => print(rt, b" bad bands"),
+        TimingRefusal::NoBand => print(rt, b" no band"),
     }
 }
 
-fn print_packed(t: I2cTiming) {
+fn print_packed(rt: &HostRuntime, t: I2cTiming) -> io::Result<()> {
     match t.pack() {
-        Packed::Raw(word) => print_timing(t, word),
-        Packed::Refused(r) => print_refusal(r),
+        Packed::Raw(word) => print_timing(rt, t, word),
+        Packed::Refused(r) => print_refusal(rt, r),
     }
 }
 
 // The line of a clock and a frequency.
-pub fn answer(clock: u32, frequency: u32, timed: Timed) {
-    print_number(clock);
-    print(b" ");
-    print_number(frequency);
+pub fn answer(rt: &HostRuntime, clock: u32, frequency: u32, timed: Timed) -> io::Result<()> {
+    print_number(rt, clock)?;
+    print(rt, b" ")?;
+    print_number(rt, frequency)?;
     match timed {
-        Timed::Timing(t) => print_packed(t),
-        Timed::Refused(r) => print_refusal(r),
+        Timed::Timing(t) => print_packed(rt, t)?,
+        Timed::Refused(r) => print_refusal(rt, r)?,
     }
-    print(b"\n");
+    print(rt, b"\n")
 }
