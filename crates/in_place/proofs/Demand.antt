@@ -6,15 +6,15 @@ use Rattle.driver.proofs.Demand.{BeginCall, beginning, demand}
 use Rattle.driver.proofs.Demand as driver
 use Rattle.driver.specs.Demand.{Advancing, After, DriverDemand3}
 use Rattle.in_place.specs.Demand.{AdvancingInPlace, by_value}
-use Rattle.in_place.proofs.Contract.{Post}
 use Rattle.in_place.specs.contracts.advance as advance
 use Rattle.in_place.proofs.advance.Reads as advance-reads
 use Rattle.in_place.specs.contracts.advance_in_place as in_place
+use Rattle.in_place.proofs.advance_in_place.Reads as in-place-reads
 
 -- The functions. Each argument and each thing as it was left is named in the contract's equation, so none can be taken for
 -- another here.
 abbrev pub InPlaceCall : Type 0
-InPlaceCall = CameBack in_place.ended Post
+InPlaceCall = CameBack in_place.ended in-place-reads.Post
 
 abbrev pub ValueCall : Type 0
 ValueCall = CameBack advance.ended advance-reads.Post

@@ -22,8 +22,8 @@ use Rattle.calls.specs.declared.Verdict.TheVariants.{Accepted, Refused}
 use Rattle.driver.proofs.Demand.{BeginCall, beginning, AdvanceCall}
 use Rattle.driver.proofs.Demand as driver
 use Rattle.driver.specs.Demand.{Advancing, InTurn}
-use Rattle.in_place_holds.specs.Demand.{AdvancingInPlace}
-use Rattle.in_place_holds.proofs.Demand.{InPlaceCall, in_place_of, ValueCall, Called, lent, by_value_holds, advancing, in_place_demand_3}
+use Rattle.in_place.specs.Demand.{AdvancingInPlace}
+use Rattle.in_place.proofs.Demand.{InPlaceCall, in_place_of, ValueCall, Called, lent, by_value_holds, advancing, in_place_demand_3}
 
 -- ---- one call, in its own terms
 
@@ -42,13 +42,13 @@ same_final : (A D : Advancing) → LentTheSame A D →
 same_final A D l = A.contract ∙ rw (l.description, l.operations, l.saved, l.buffer, l.answers, l.log) (sym D.contract)
 
 module _ (P : InPlaceCall) where
-  abbrev in_place_holds : AdvancingInPlace
-  in_place_holds = in_place_of P
+  abbrev in_place : AdvancingInPlace
+  in_place = in_place_of P
 
   as_by_value : (D : AdvanceCall) → LentTheSame (advancing (lent P)) (driver.advancing D) →
       (P.gave.used ≡ D.gave.used) × (P.gave.written ≡ D.gave.written) × (P.gave.report ≡ D.gave.report)
-      × (in_place_holds.saved_left ≡ D.gave.saved) × (in_place_holds.buffer_left ≡ (driver.advancing D).advance.buffer_left)
-      × (in_place_holds.log_left ≡ (driver.advancing D).advance.log_left)
+      × (in_place.saved_left ≡ D.gave.saved) × (in_place.buffer_left ≡ (driver.advancing D).advance.buffer_left)
+      × (in_place.log_left ≡ (driver.advancing D).advance.log_left)
   as_by_value D l =
       let e = same_final (advancing (lent P)) (driver.advancing D) l in (
         ap (λ (F : Final). F.advanced.used) e,
@@ -61,13 +61,13 @@ module _ (P : InPlaceCall) where
 
   -- refused it uses nothing, writes nothing, and leaves saved call, buffer and log as they were lent
   refused_leaves_all : T (is_refusal P.gave.report) →
-      (P.gave.used ≡ 0) × (P.gave.written ≡ 0) × (in_place_holds.saved_left ≡ in_place_holds.saved)
-      × (in_place_holds.buffer_left ≡ in_place_holds.buffer) × (in_place_holds.log_left ≡ in_place_holds.log)
+      (P.gave.used ≡ 0) × (P.gave.written ≡ 0) × (in_place.saved_left ≡ in_place.saved)
+      × (in_place.buffer_left ≡ in_place.buffer) × (in_place.log_left ≡ in_place.log)
   unfolding run_of
   refused_leaves_all h =
-      let f = in_place_holds.contract in
-      let z = refusal_stops (check_of in_place_holds.description in_place_holds.operations (length in_place_holds.buffer)) in_place_holds.description
-      in_place_holds.operations (length in_place_holds.log / 2) in_place_holds.saved in_place_holds.buffer in_place_holds.answers
+      let f = in_place.contract in
+      let z = refusal_stops (check_of in_place.description in_place.operations (length in_place.buffer)) in_place.description
+      in_place.operations (length in_place.log / 2) in_place.saved in_place.buffer in_place.answers
       (rw (ap (λ (F : Final). F.advanced.report) f) at h) in (
         ap (λ (F : Final). F.advanced.used) f ∙ z.used,
         ap (λ (F : Final). F.advanced.written) f ∙ ap length z.entries,
@@ -77,11 +77,11 @@ module _ (P : InPlaceCall) where
       )
 
   -- and always stays within what it was lent
-  stays_within : (P.gave.written ≤ length in_place_holds.log / 2) × (P.gave.used ≤ length in_place_holds.answers)
-      × (length in_place_holds.buffer_left ≡ length in_place_holds.buffer)
+  stays_within : (P.gave.written ≤ length in_place.log / 2) × (P.gave.used ≤ length in_place.answers)
+      × (length in_place.buffer_left ≡ length in_place.buffer)
   stays_within =
-      let f = in_place_holds.contract in
-      let w = within in_place_holds.description in_place_holds.operations (length in_place_holds.log / 2) in_place_holds.saved in_place_holds.buffer in_place_holds.answers in (
+      let f = in_place.contract in
+      let w = within in_place.description in_place.operations (length in_place.log / 2) in_place.saved in_place.buffer in_place.answers in (
         rw (ap (λ (F : Final). F.advanced.written) f) w.entries,
         rw (ap (λ (F : Final). F.advanced.used) f) w.used,
         ap (λ (F : Final). length F.buffer) f ∙ w.buffer,
