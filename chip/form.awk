@@ -10,6 +10,8 @@ BEGIN {
     name = "%[A-Za-z0-9_.]+"
     number = "(i1|i8|i16|i32|i64)"
     value = "(" name "|-?[0-9]+|true|false)"
+    text = "@static\\.[0-9]+"
+    pair = "\\{ ((i8|i16|i32|i64), (i8|i16|i32|i64)|ptr, i64) \\}" # its second part stands at the same byte on both machines
     called = "@(\"[^\"]*\"|[A-Za-z0-9_.]+)"
     passed = "(ptr " name "|" number " " value ")"
     taken = "(ptr|" number ")( noundef)?( zeroext)?( " name ")?"
@@ -20,8 +22,8 @@ BEGIN {
 
     # Instructions, by their first word. Places on the stack are numbers, pointers and bytes of fixed size.
     form["alloca"] = name " = alloca (i8|i16|i32|i64|ptr|\\[[0-9]+ x i8\\])" aligned
-    form["load"] = name " = load (i8|i16|i32|i64|ptr), ptr " name aligned known
-    form["store"] = "store ((i8|i16|i32|i64) " value "|ptr " name "), ptr " name aligned
+    form["load"] = name " = load (i8|i16|i32|i64|ptr|" pair "), ptr " name aligned known
+    form["store"] = "store ((i8|i16|i32|i64) " value "|ptr (" name "|" text ")), ptr " name aligned
     form["getelementptr"] = name " = getelementptr (inbounds )?(nuw )?i8, ptr " name ", i64 (" name "|[0-9]+)"
     form["icmp"] = name " = icmp (eq|ne|ult|ule|ugt|uge) " number " " value ", " value
     form["zext"] = form["trunc"] = name " = (zext|trunc) (nuw |nneg )?" number " " value " to " number
@@ -30,20 +32,22 @@ BEGIN {
     form["and"] = form["or"] = form["xor"] = name " = (and|or|xor) " number " " value ", " value
     form["br"] = "br (label " name "|i1 " value ", label " name ", label " name ")"
     form["switch"] = "switch " number " " name ", label " name " \\["
-    form["ret"] = "ret (void|" number " " value ")"
+    form["ret"] = "ret (void|" number " " value "|" pair " " name ")"
+    form["extractvalue"] = name " = extractvalue " pair " " name ", [01]"
     form["unreachable"] = "unreachable"
-    form["call"] = "(" name " = )?call (void|" number ") " called "\\((" passed "(, " passed ")*)?\\)"
+    form["call"] = "(" name " = )?call (void|" number "|" pair ") " called "\\((" passed "(, " passed ")*)?\\)"
     moves = "call void @llvm\\.mem(move|cpy)\\.p0\\.p0\\.i64\\(ptr " name ", ptr " name ", i64 [0-9]+, i1 false\\)"
-    heads = "define (internal )?(noundef )?(zeroext )?(void|" number ") " called "\\((" taken "(, " taken ")*)?\\) #[0-9]+ \\{"
+    absent = name " = icmp eq ptr %a[0-9]+, null"
+    heads = "define (internal )?(noundef )?(zeroext )?(void|" number "|" pair ") " called "\\((" taken "(, " taken ")*)?\\) #[0-9]+ \\{"
     crossing = "(void|i32|i64) @huskerivory_[a-z_]+\\(((ptr|i32|i64)(, (ptr|i32|i64))*)?\\)"
     fills = "call void @llvm\\.memset\\.p0\\.i64\\(ptr " name ", i8 " value ", i64 [0-9]+, i1 false\\)"
     traps = "call void @llvm\\.trap\\(\\)"
 
     because["alloca"] = "a place on the stack is a number, a pointer or bytes of fixed size, aligned to 8 at most"
-    because["load"] = "a number or a pointer is loaded, plainly and with a written alignment"
-    because["store"] = "a number or a pointer is stored, plainly and with a written alignment"
+    because["load"] = "a number, a pointer or a pair is loaded, plainly and with a written alignment"
+    because["store"] = "a number, a pointer or a text's place is stored, plainly and with a written alignment"
     because["getelementptr"] = "an address is counted in bytes from a pointer, up"
-    because["icmp"] = "numbers are compared, without a sign"
+    because["icmp"] = "numbers are compared, without a sign; of pointers, one that an exported function is lent with null"
     because["call"] = "a function of the module is called by its name, or a move or fill of fixed size"
     because["define"] = "a function takes pointers and numbers"
 }
@@ -83,15 +87,20 @@ function check_places(line, kind, words, count,    i, of_pointers) {
     for (i = 2; i <= count; i++) {
         if (place[words[i]] == "pointer" && !(of_pointers && i == (kind == "load" ? 6 : 5)))
             refuse("a place of a pointer has another size there, and takes part in loads and stores of pointers alone")
-        if (place[words[i]] == "number" && of_pointers && i == (kind == "load" ? 6 : 5)) refuse("a place of a number holds no pointer")
+        if (place[words[i]] == "number" && words[kind == "load" ? 4 : 2] ~ /ptr/ && i == (kind == "load" ? 6 : 5)) refuse("a place of a number holds no pointer")
     }
 }
 
 # Of bytes at a constant distance from a pointer, a function uses the same 8 for pointers or for numbers, and not for both: half of a pointer's
-# are nothing there.
-function check_bytes(type, at,    from, distance, i, byte, use) {
+# are nothing there. The parts of a pair are aligned as they are wide.
+function check_bytes(type, at, further,    from, distance, i, byte, use, part) {
+    if (split(type, part, /[{:}]/) > 1) {
+        check_bytes(part[2], at, 0)
+        check_bytes(part[3], at, width[part[2]] > width[part[3]] ? width[part[2]] : width[part[3]])
+        return
+    }
     from = at in origin ? origin[at] : at
-    distance = at in origin ? steps[at] : 0
+    distance = (at in origin ? steps[at] : 0) + further
     use = type == "ptr" ? "pointer" : "number"
     for (i = 0; i < width[type]; i++) {
         byte = from SUBSEP (distance + i)
@@ -107,12 +116,20 @@ function count_on(result, from, by) {
     steps[result] = (from in origin ? steps[from] : 0) + by
 }
 
+# a pair's type as one word: {ptr:i64}
+function joined(type) {
+    gsub(/ /, "", type)
+    sub(/,/, ":", type)
+    return type
+}
+
 function check_memory(line, kind,    words, count) {
+    if (match(line, pair)) line = substr(line, 1, RSTART - 1) joined(substr(line, RSTART, RLENGTH)) substr(line, RSTART + RLENGTH)
     count = split(line, words, /[ ,()]+/)
     if (kind == "alloca") place[words[1]] = words[4] == "ptr" ? "pointer" : words[4] ~ /^i/ ? "number" : "bytes"
     else check_places(line, kind, words, count)
-    if (kind == "load") check_bytes(words[4], words[6])
-    if (kind == "store") check_bytes(words[2], words[5])
+    if (kind == "load") check_bytes(words[4], words[6], 0)
+    if (kind == "store") check_bytes(words[2], words[5], 0)
     if (kind == "getelementptr") count_on(words[1], words[count - 2], words[count])
 }
 
@@ -123,7 +140,7 @@ function check_instruction(line,    kind) {
     kind = kind_of(line)
     instructions++
     if (!(kind in form)) refuse("an instruction of a kind that is not known here")
-    else if (!whole(line, form[kind])) refuse(kind in because ? because[kind] : "another form of this instruction")
+    else if (!whole(line, form[kind]) && !(is_exported && whole(line, absent))) refuse(kind in because ? because[kind] : "another form of this instruction")
     else {
         if (kind == "call") check_call(line)
         check_memory(line, kind)
@@ -143,12 +160,13 @@ function check_exported(line,    signature) {
 function check_define(line) {
     if (!whole(line, heads)) refuse(because["define"])
     defined[callee(line)] = 1
-    if (line !~ /^define internal /) check_exported(line)
+    is_exported = line !~ /^define internal /
+    if (is_exported) check_exported(line)
 }
 
-# attributes say nothing of a layout; the two that are x86's are left out of the other machine's text by chip/build
+# attributes say nothing of a layout; the three that are x86's are left out of the other machine's text by chip/build
 function check_attributes(line) {
-    gsub(/"probe-stack"="inline-asm"|"target-cpu"="x86-64"|memory\([a-z: ]*\)|nounwind|nocallback|nofree|willreturn|cold|noreturn/, "", line)
+    gsub(/"probe-stack"="inline-asm"|"stack-probe-size"="[0-9]+"|"target-cpu"="x86-64"|memory\([a-z: ]*\)|nounwind|nocallback|nofree|willreturn|cold|noreturn/, "", line)
     if (!whole(line, "attributes #[0-9]+ = \\{ *\\}")) refuse("an attribute that is not known here")
 }
 
@@ -169,6 +187,10 @@ FNR == NR {
 }
 /^target triple = / {
     if ($0 != "target triple = \"x86_64-unknown-linux-gnu\"") refuse("the module is made for x86-64")
+    next
+}
+/^@/ { # a text of the program: bytes that are only read
+    if (!whole($0, text " = private unnamed_addr constant \\[[0-9]+ x i8\\] (zeroinitializer|c\"[^\"]*\"), align 1")) refuse("a global is bytes that stay as they are")
     next
 }
 /^declare / {

@@ -1,5 +1,5 @@
 # awk -v layout=LINE -v triple=LINE -f thumb.awk MODULE MODULE: the text of a module that form.awk took, for the Cortex-M33. It is read twice.
-# Layout and triple become the given lines, the two attributes that are x86's go, and functions with large places are kept apart.
+# Layout and triple become the given lines, the three attributes that are x86's go, and functions with large places are kept apart.
 # Everything else stays as it is.
 #
 # Kept apart (noinline): clang copies a function that is called once into its caller, and its places on the stack with it, so that an advance with
@@ -18,6 +18,6 @@ FNR == NR {
 }
 /^target datalayout = / { $0 = layout }
 /^target triple = / { $0 = triple }
-/^attributes / { gsub(/ "probe-stack"="inline-asm"| "target-cpu"="x86-64"/, "") }
+/^attributes / { gsub(/ "probe-stack"="inline-asm"| "stack-probe-size"="[0-9]+"| "target-cpu"="x86-64"/, "") }
 /^define internal / && callee($0) in large && callee($0) in calls { sub(/ #[0-9]+ \{$/, " noinline&") }
 { print }

@@ -28,7 +28,7 @@
  * Bytes after the last whole word, or after the last whole log entry, are neither read nor written; only huskerivory_page refuses a
  * log that has such bytes, and a table of bands is refused that is not whole rows. The numbers of a struct are the machine's own.
  *
- * The library is, for x86-64, target/staticlib/libboundary.a, which `rt staticlib boundary` writes; for the Cortex-M33,
+ * The library is, for x86-64, target/staticlib/libboundary.a, which `tools/built boundary_c` writes; for the Cortex-M33,
  * target/chip/libhuskerivory-thumbv8m.a, and the same name with -hard for callers that pass floating-point numbers in
  * registers, which `chip/build` writes. This header is the same for all of them: only pointers and numbers of 32 and 64 bits
  * cross. */

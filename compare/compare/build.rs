@@ -13,7 +13,7 @@ fn main() {
         println!("cargo::rustc-link-lib=static=boundary");
     } else {
         println!(
-            "cargo::error={} is missing: run rt staticlib boundary first",
+            "cargo::error={} is missing: run tools/built boundary_c first",
             library.display()
         );
     }

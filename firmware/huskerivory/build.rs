@@ -1,6 +1,6 @@
 //! Links the proved library, which the repository builds apart from cargo: for a Cortex-M33 the
 //! archive of `chip/build`, by the way in which floating-point numbers are passed, and otherwise
-//! that of `rt staticlib boundary`.
+//! that of `tools/built boundary_c`.
 
 use std::{env, path::PathBuf};
 
@@ -9,7 +9,7 @@ fn main() {
     let (folder, name, made_by) = match target.as_str() {
         "thumbv8m.main-none-eabi" => ("chip", "huskerivory-thumbv8m", "chip/build"),
         "thumbv8m.main-none-eabihf" => ("chip", "huskerivory-thumbv8m-hard", "chip/build"),
-        _ => ("staticlib", "boundary", "rt staticlib boundary"),
+        _ => ("staticlib", "boundary", "tools/built boundary_c"),
     };
     let manifest = PathBuf::from(env::var_os("CARGO_MANIFEST_DIR").unwrap());
     let folder = manifest.join("../../target").join(folder);
