@@ -1,4 +1,6 @@
 // The access of a step, and its register alone, which takes neither a byte nor a word.
+#![tactic(auto)]
+
 ghost use Rattle.std.specs.Prelude.{◌≡◌, List, ℕ, ◌+◌, get_or};
 ghost use Rattle.registers.specs.Places.{ICR_ADDRCF, ICR_NACKCF, ICR_STOPCF, ICR_BERRCF, ICR_ARLOCF};
 ghost use Rattle.calls.specs.Steps.{clears, flushes, enables, byte_out, byte_access, access_at};

@@ -1,5 +1,7 @@
 // What a call is: its description, its steps, where it stands, and what comes of it. Which access each step makes and
 // what follows is the definition in specs/; that it holds for every order of flags is proved in proofs/.
+#![tactic(auto)]
+
 ghost use Rattle.std.specs.Prelude.{◌≡◌};
 ghost use Rattle.calls.specs.Calls.{config_of, with_own, with_mode, with_secondary, with_mask};
 

@@ -1,5 +1,7 @@
 // The driver: begin, advance and the next access of every listed call, each equal to its definition in the crate `calls`.
 // It touches no register: answers are lent to it, and what it would write stands in the log that it leaves.
+#![tactic(auto)]
+
 ghost use Rattle.std.specs.Prelude.{◌≡◌, ◌/◌, length};
 ghost use Rattle.calls.specs.Refusals.{request_of, check_of};
 ghost use Rattle.calls.specs.Run.{begun_of, run_by, as_final, final_by, final_of};

@@ -1,4 +1,6 @@
 // Fields of a register word: read, written and tested. Which place is which register's field is the crate `registers`.
+#![tactic(auto)]
+
 ghost use Rattle.std.specs.Prelude.{◌≡◌, ◌+◌, ◌-◌, ◌^◌, ◌≤◌, ◌<◌, min};
 ghost use Rattle.fields.specs.Field.{bits_at, with_bits, get_of, put_of, flag_of, mark_of, place, bit};
 

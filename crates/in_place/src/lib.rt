@@ -1,5 +1,7 @@
 // The driver's advance with the saved call lent and updated, as the Rust's `&mut self` is: a thin entry over the advance by
 // value.
+#![tactic(auto)]
+
 ghost use Rattle.std.specs.Prelude.{◌≡◌};
 ghost use Rattle.calls.specs.Run.{as_final, final_of};
 ghost use Rattle.in_place.specs.InPlace.{in_place};

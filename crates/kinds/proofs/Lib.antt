@@ -1,2 +1,1 @@
 pub mod Branch
-pub mod Variants

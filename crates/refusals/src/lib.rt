@@ -1,5 +1,7 @@
 // Document 01's table of refusals, rows 12, 8, 10 and 11: the first that fits is given. A row's tests are cheap, and
 // `&` and `|` take them all; only the operation list is left alone where the call is no transaction.
+#![tactic(auto)]
+
 ghost use Rattle.std.specs.Prelude.{◌≡◌, ◌≤◌, length};
 ghost use Rattle.calls.specs.Refusals.{no_such_listen_kind, no_configuration, no_such_call, too_wide, secondary_wide, mask_wide, config_wide, address_wide, strange_bits, buffer_wrong, request_of, verdict_of, check_of};
 ghost use Rattle.refusals.specs.Rows.{survey_of, buffer_verdict, list_verdict};

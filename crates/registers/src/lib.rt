@@ -1,5 +1,7 @@
 // The nine I2C registers of RM0492: a type for each around its word, with its offset, its reset value, and the fields that
 // the driver reads and writes. A getter reads a field of the word, a setter gives the word with the field replaced.
+#![tactic(auto)]
+
 ghost use Rattle.std.specs.Prelude.{◌≡◌};
 ghost use Rattle.fields.specs.Field.{get_of, put_of, flag_of, mark_of};
 ghost use Rattle.registers.specs.Map.{offset_of, reset_of};

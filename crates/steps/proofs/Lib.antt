@@ -1,2 +1,1 @@
-pub mod Unlike
 pub mod Small

@@ -1,5 +1,7 @@
 // The saved call after each access, and the one that a call begins with: a function for each row of the definition.
 // `Small` bounds a saved call's counts, so that no sum of them overflows.
+#![tactic(auto)]
+
 ghost use Rattle.std.specs.Prelude.{◌≡◌, cond, not, ◌&&◌, ◌||◌, ltb, ◌+◌, ◌-◌, ◌≤◌, min};
 ghost use Rattle.fields.specs.Field.{flag_of};
 ghost use Rattle.registers.specs.Places.{ISR_STOPF, ISR_ADDR};

@@ -1,5 +1,7 @@
 // What a bus timing is: the fields of TIMINGR, packed and unpacked, what a speed band is, and why there may be no timing. The crate
 // `bands` works timings out. Every timing and word has an answer, which is a numbered refusal of document 01 where none is right.
+#![tactic(auto)]
+
 ghost use Rattle.std.specs.Prelude.{◌≡◌};
 ghost use Rattle.timing.specs.Refusals.{timing_refusal_number};
 ghost use Rattle.timing.specs.Timingr.{raw_of, pack_of, unpack_of};

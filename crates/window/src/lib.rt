@@ -1,5 +1,7 @@
 // A text put into a window: the bytes of the text from some place on, as many as a slice holds. So a text of any length is
 // laid out in fixed memory, one window after the other.
+#![tactic(auto)]
+
 ghost use Rattle.std.specs.Prelude.{◌≡◌, replicate};
 ghost use Rattle.window.specs.Window.{laid, start_of, full, put_byte, emit_of};
 

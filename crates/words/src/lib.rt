@@ -1,4 +1,6 @@
 // Little-endian words in byte slices. Bytes after the last whole word are not looked at.
+#![tactic(auto)]
+
 ghost use Rattle.std.specs.Prelude.{◌≡◌, ◌+◌, ◌*◌, ◌≤◌, length};
 ghost use Rattle.std.proofs.lemmas.List.Edits.{sets};
 ghost use Rattle.words.specs.Words.{word_of, word_at, as_decoded, decoded_of, bytes_in, put_words, put_words_at};
