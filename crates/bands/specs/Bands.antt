@@ -1,6 +1,6 @@
 -- The timing by a board's own speed bands (document 02, R-4), kernel clock and bus frequency in hertz. A row has document 01's columns:
 -- upper frequency, least clock, d, the divisors of SDADEL and SCLDEL, and its shape. All divisions are whole. Document 01's own rule
--- is `timingOf` of the crate `timing`; with `fiveBands` the two are the same. Assumes nothing.
+-- is `timing_of` of the crate `timing`; with `five_bands` the two are the same. Assumes nothing.
 use Rattle.std.specs.Prelude.{ℕ, ◌+◌, ◌-◌, ◌*◌, ◌/◌, min, Bool, true, cond, ◌&&◌, ◌||◌, List, [], ◌∷◌, ◌++◌, eqb, leb, ltb, length}
 use Rattle.timing.specs.Bands.{bands, above, divider_of, fields_of}
 use Rattle.timing.specs.declared.Band.{Band}

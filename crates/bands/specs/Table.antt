@@ -29,7 +29,7 @@ bands_in bytes =
     let n = length bytes / 24 in
     cond (eqb (length bytes % 24) 0 && named n bytes) (bands_from n bytes) []
 
--- The bytes of rows: what a maker writes so that `bandsIn` gives the rows.
+-- The bytes of rows: what a maker writes so that `bands_in` gives the rows.
 abbrev pub shape_number : Shape → ℕ
 shape_number Equal = 0
 shape_number Double = 1

@@ -1,5 +1,5 @@
 -- Demand 3 holds across the C boundary: of every call of `huskerivory_begin` and every list of calls of `huskerivory_advance`
--- that came back, by their contracts. `boundary-demand-3` is the theorem. Assumes nothing.
+-- that came back, by their contracts. `boundary_demand_3` is the theorem. Assumes nothing.
 use Prim.Native.Nat.{ℕ, ◌*◌, ◌/◌, ◌<◌}
 use native.Mathlib.Omega.{arith}
 use mathlib.Core.Path.{◌≡◌, refl, sym, ap, ◌∙◌, subst}

@@ -29,7 +29,7 @@ abbrev pub loaded_answer : Loaded → ℕ
 loaded_answer Accepted = 0
 loaded_answer (NotLoaded why) = timing_refusal_number why
 
--- What the code does with a timing: it packs it. That this is never refused is `bands-fit` of the crate `bands`.
+-- What the code does with a timing: it packs it. That this is never refused is `bands_fit` of the crate `bands`.
 abbrev pub packed_timed : Timed → TimingAnswer
 packed_timed (Timing t) = packed_answer (pack_of t)
 packed_timed (NotTimed why) = answer (timing_refusal_number why) 0

@@ -1,4 +1,4 @@
--- R-1: the pieces of a list are document 01's for the list already cut. `long-cards` is the theorem. Assumes nothing.
+-- R-1: the pieces of a list are document 01's for the list already cut. `long_cards` is the theorem. Assumes nothing.
 use Prim.Native.Nat.{ℕ, zero, suc, ◌+◌, ◌-◌, ◌*◌, ◌/◌, ◌%◌, ◌^◌, ◌≤◌, ◌<◌, min, max}
 use native.Mathlib.Omega.{arith}
 use mathlib.Core.Logic.{◌≢◌}

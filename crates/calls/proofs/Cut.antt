@@ -1,4 +1,4 @@
--- Demand 3: however a call is cut into advances, refused ones among them, it is one uncut run. `cut-anywhere` is the theorem.
+-- Demand 3: however a call is cut into advances, refused ones among them, it is one uncut run. `cut_anywhere` is the theorem.
 -- Assumes nothing.
 use Prim.Native.Nat.{ℕ, zero, suc, ◌+◌, ◌*◌, ◌/◌, ◌<◌}
 use native.Mathlib.Nat.{zero-add, add-zero, suc-add, add_assoc}

@@ -1,4 +1,4 @@
--- Demand 3: what holds of the uncut run holds of every list of advances. `demand-3` is the theorem. Assumes nothing.
+-- Demand 3: what holds of the uncut run holds of every list of advances. `demand_3` is the theorem. Assumes nothing.
 use Prim.Native.Nat.{ℕ, min}
 use mathlib.Core.Path.{◌≡◌, refl, ap, ◌∙◌, subst}
 use mathlib.Core.List.{List, [], ◌++◌}

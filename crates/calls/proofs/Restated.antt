@@ -1,5 +1,5 @@
 -- What demand 3 and document 01's section "A call, from its entry" say of a begin and the advances after it, once more, fact by fact, in the
--- words of Plain. Each theorem is read off `demand-3`: a statement that loses a fact, and its proof with it, fails here. Assumes nothing.
+-- words of Plain. Each theorem is read off `demand_3`: a statement that loses a fact, and its proof with it, fails here. Assumes nothing.
 use Prim.Native.Nat.{ℕ, zero, suc, ◌+◌, ◌-◌, ◌/◌, ◌%◌, ◌≤◌, ◌<◌, min}
 use native.Mathlib.Omega.{arith}
 use mathlib.Core.Logic.{◌≢◌}
@@ -398,7 +398,7 @@ module _ (r : Refusal) (d : Description) (ops b : List ℕ) (As : List Advance) 
   pub nothing_done : (accesses As ≡ 0) × (entries As ≡ []) × (b' ≡ b)
   nothing_done = (sym (accesses_are As) ∙ no_run.made, sym (entries_are As) ∙ no_run.joined, sym (led leads).buffer ∙ no_run.buffer)
 
--- ---- document 02, R-1, once more: read off `long-cards`
+-- ---- document 02, R-1, once more: read off `long_cards`
 
 -- a transaction's pieces and runs are those of the list already cut, which document 01 takes
 module _ (c : Call) (d : Description) (ops : List ℕ) (n : ℕ) (t : T (is_transaction c)) where

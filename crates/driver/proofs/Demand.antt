@@ -1,5 +1,5 @@
 -- Demand 3 holds of the driver's functions: of every call of `begin` and every list of calls of `advance` that came back, by
--- their contracts. `driver-demand-3` is the theorem. Assumes nothing.
+-- their contracts. `driver_demand_3` is the theorem. Assumes nothing.
 use Prim.Native.Nat.{ℕ}
 use mathlib.Core.Path.{◌≡◌, refl, ap, ◌∙◌, subst, subst⁻¹}
 use mathlib.Core.List.{List, [], ◌∷◌, map}

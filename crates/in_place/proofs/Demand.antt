@@ -1,5 +1,5 @@
 -- Demand 3 holds of `in_place`: of every call of `begin` and every list of calls of `advance_in_place` and `advance` that came
--- back, by their contracts. `in-place-demand-3` is the theorem. Assumes nothing.
+-- back, by their contracts. `in_place_demand_3` is the theorem. Assumes nothing.
 use mathlib.Core.List.{List, map}
 use Rattle.driver.proofs.CameBack.{CameBack}
 use Rattle.driver.proofs.Demand.{BeginCall, beginning, demand}

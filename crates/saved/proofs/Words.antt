@@ -1,6 +1,6 @@
 -- The numbers of a run are words: of a saved call that begin gives or that a run over answers of 32 bits comes to, as
--- `read-written` asks, and of the entries that the run makes; and the buffer's are bytes still. `begin-words` and
--- `run-in-range` are the theorems. Assumes nothing.
+-- `read_written` asks, and of the entries that the run makes; and the buffer's are bytes still. `begin_words` and
+-- `run_in_range` are the theorems. Assumes nothing.
 use Prim.Native.Nat.{ℕ, zero, suc, ◌-◌, ◌≤◌, ◌<◌}
 use native.Mathlib.Omega.{arith}
 use mathlib.Core.Path.{◌≡◌, refl}
