@@ -1,6 +1,6 @@
 // The driver for C and Rust callers, under names with a prefix: functions on numbers, byte slices and arrays of numbers, so that their
-// signatures mean the same on every machine. `compare` and the
-// firmware link it, and include/huskerivory.h says the same to a C programmer.
+// signatures mean the same on every machine. `boundary_c` is the library of them that `compare` and the firmware link, and
+// include/huskerivory.h says the same to a C programmer.
 #![tactic(auto)]
 
 ghost use Rattle.std.specs.Prelude.{◌≡◌, length};
