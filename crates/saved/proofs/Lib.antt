@@ -1,4 +1,5 @@
 pub mod Arms
 pub mod Bytes
+pub mod Numbered
 pub mod Round
 pub mod Words

@@ -13,15 +13,16 @@ use Rattle.calls.proofs.Logic.{by_test, is_true}
 use Rattle.calls.specs.Bytes.{range}
 use Rattle.calls.specs.Outcomes.{outcome_number, outcome_value}
 use Rattle.calls.specs.Run.{no_call}
-use Rattle.calls.specs.Steps.{step_number, steps, same_step}
+use Rattle.calls.specs.Steps.{step_number, same_step}
 use Rattle.calls.specs.declared.Outcome.{Outcome}
 use Rattle.calls.specs.declared.Outcome.TheVariants.{Done, Bus, Arbitration, Nack, Stopped, ExpectedWrite, ExpectedRead, EventRead, EventWrite, EventStop}
 use Rattle.calls.specs.declared.SavedCall.{SavedCall}
 use Rattle.calls.specs.declared.Step.{Step}
 use Rattle.words.specs.Words.{Below, words_in, word_at, bytes_of}
 use Rattle.words.proofs.Round.{words_back, whole_words}
+use Rattle.saved.proofs.Numbered.{Numbered, number_back}
 use Rattle.saved.specs.Range.{OfWords}
-use Rattle.saved.specs.Saved.{step_in, step_at, outcome_in, outcomes, outcome_at, outcome_place, value_place, step_place, saved_words, saved_count, saved_length, saved_bytes, is_outcome, is_step, is_saved, outcome_of, step_of, saved_with, saved_in}
+use Rattle.saved.specs.Saved.{step_at, outcome_in, outcomes, outcome_at, outcome_place, value_place, step_place, saved_words, saved_count, saved_length, saved_bytes, is_outcome, is_step, is_saved, outcome_of, step_of, saved_with, saved_in}
 use Rattle.saved.specs.declared.outcome.FoundOutcome.{FoundOutcome}
 use Rattle.saved.specs.declared.outcome.FoundOutcome.TheVariants.{AnOutcome, NoOutcome}
 use Rattle.saved.specs.declared.step.FoundStep.{FoundStep}
@@ -39,19 +40,6 @@ the_step t NoStep h = absurd h
 step_back : (t : Step) → step_at (step_number t) ≡ AStep t
 unfolding step_at
 step_back t = the_step t (step_at (step_number t)) (every_step (λ u. found u (step_at (step_number u))) tt t)
-
-abbrev Numbered : ℕ → FoundStep → Type 0
-Numbered n (AStep t) = step_number t ≡ n
-Numbered n NoStep = Unit {0}
-
-step_in_holds : (ts : List Step) (n : ℕ) → Numbered n (step_in ts n)
-step_in_holds [] n = tt
-step_in_holds (t ∷ ts) n =
-    by_test (Numbered n) (eqb n (step_number t)) (λ h. sym (eqb→eq n (step_number t) h)) (λ _. step_in_holds ts n)
-
-number_back : (n : ℕ) → Numbered n (step_at n)
-unfolding step_at
-number_back n = step_in_holds steps n
 
 -- ---- outcomes
 outcome_back : (o : Outcome) → outcome_at (outcome_number o) (outcome_value o) ≡ AnOutcome o
