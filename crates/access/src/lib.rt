@@ -2,8 +2,9 @@
 #![tactic(auto)]
 
 ghost use Rattle.std.specs.Prelude.{◌≡◌, List, ℕ, ◌+◌, get_or};
-ghost use Rattle.registers.specs.Places.{ICR_ADDRCF, ICR_NACKCF, ICR_STOPCF, ICR_BERRCF, ICR_ARLOCF};
-ghost use Rattle.calls.specs.Steps.{clears, flushes, enables, byte_out, byte_access, access_at};
+ghost use Rattle.registers.specs.declared.Register.TheVariants.{Icr as IcrOf};
+ghost use Rattle.calls.specs.declared.Access.TheVariants.{Write as WriteTo};
+ghost use Rattle.calls.specs.Steps.{flushes, enables, byte_out, byte_access, access_at};
 ghost use Rattle.calls.specs.Next.{next_of};
 
 use calls::{Access, Call, Description, Next, SavedCall, Step, View};
@@ -11,34 +12,11 @@ use registers::{Cr1, Icr, Isr, Register, Txdr};
 
 mod words;
 
-fn clear_stop() -> Access
-    ensures { result ≡ clears ICR_STOPCF }
+// Writing 1 to a flag of ICR clears it in ISR.
+fn clear(flag: Icr) -> Access
+    ensures { result ≡ WriteTo IcrOf flag.0 }
 {
-    Access::Write(Register::Icr, Icr(Icr::RESET).with_stopcf(true).0)
-}
-
-fn clear_bus() -> Access
-    ensures { result ≡ clears ICR_BERRCF }
-{
-    Access::Write(Register::Icr, Icr(Icr::RESET).with_berrcf(true).0)
-}
-
-fn clear_arbitration() -> Access
-    ensures { result ≡ clears ICR_ARLOCF }
-{
-    Access::Write(Register::Icr, Icr(Icr::RESET).with_arlocf(true).0)
-}
-
-fn clear_nack() -> Access
-    ensures { result ≡ clears ICR_NACKCF }
-{
-    Access::Write(Register::Icr, Icr(Icr::RESET).with_nackcf(true).0)
-}
-
-fn clear_address() -> Access
-    ensures { result ≡ clears ICR_ADDRCF }
-{
-    Access::Write(Register::Icr, Icr(Icr::RESET).with_addrcf(true).0)
+    Access::Write(Register::Icr, flag.0)
 }
 
 fn flush() -> Access
@@ -62,66 +40,68 @@ pub fn place(v: View, s: SavedCall) -> usize
     v.start as usize + s.byte as usize
 }
 
-// TXDR's word for a byte of the buffer, 0 past its end.
+// TXDR's word for a byte: TXDATA takes it whole.
+#[tactic(auto, using(crate::proofs::Fields::byte_is_whole))]
+fn txdr_word(byte: u8) -> u32
+    ensures { result ≡ byte }
+{
+    Txdr(Txdr::RESET).with_txdata(byte.into()).0
+}
+
+// That for a byte of the buffer, 0 past its end.
+// By hand: chip/form.awk passes no function that returns an Option of a reference, as `get` does.
 fn byte_at(b: &[u8], i: usize) -> u32
     ensures { result ≡ get_or b.now i 0 }
 {
-    if i < b.len() {
-        return Txdr(Txdr::RESET).with_txdata(b[i] as u32).0;
-    }
-    0
+    if i < b.len() { txdr_word(b[i]) } else { 0 }
 }
 
+// By hand: view, buffer and saved call go side by side, since the buffer is borrowed and the others are copied.
 pub fn byte_out(v: View, b: &[u8], s: SavedCall) -> u32
     ensures { result ≡ byte_out v b.now s }
 {
     if s.byte < v.size {
-        return byte_at(b, place(v, s));
+        byte_at(b, place(v, s))
+    } else {
+        0
     }
-    0
 }
 
 fn byte_access(v: View, b: &[u8], s: SavedCall) -> Access
     ensures { result ≡ byte_access v b.now s }
 {
     if v.reads {
-        return Access::Take(place(v, s));
+        Access::Take(place(v, s))
+    } else {
+        Access::Write(Register::Txdr, byte_out(v, b, s))
     }
-    Access::Write(Register::Txdr, byte_out(v, b, s))
 }
 
+// By hand: the step is saved as a number and comes back from C, so it is matched: it can be no closure.
 pub fn access(c: Call, d: Description, v: View, b: &[u8], s: SavedCall) -> Access
     ensures { result ≡ access_at c d v b.now s s.step }
 {
-    let step = s.step;
-    let config = d.config;
-    match step {
+    match s.step {
         Step::Ended => Access::Nothing,
         Step::Begin => Access::Write(Register::Cr2, words::cr2_word(d, v, s.piece != 0)),
-        Step::StartStatus => Access::Read(Register::Isr),
+        Step::StartStatus | Step::Wait | Step::FlushTxis | Step::FlushTxe | Step::Event => {
+            Access::Read(Register::Isr)
+        }
         Step::StartControl => Access::Read(Register::Cr2),
-        Step::Wait => Access::Read(Register::Isr),
         Step::Byte => byte_access(v, b, s),
-        Step::StopClear => clear_stop(),
-        Step::BusClear => clear_bus(),
-        Step::ArbitrationClear => clear_arbitration(),
-        Step::NackClear => clear_nack(),
-        Step::FlushTxis => Access::Read(Register::Isr),
+        Step::StopClear => clear(Icr(Icr::RESET).with_stopcf(true)),
+        Step::BusClear => clear(Icr(Icr::RESET).with_berrcf(true)),
+        Step::ArbitrationClear => clear(Icr(Icr::RESET).with_arlocf(true)),
+        Step::NackClear => clear(Icr(Icr::RESET).with_nackcf(true)),
         Step::FlushByte => Access::Write(Register::Txdr, 0),
-        Step::FlushTxe => Access::Read(Register::Isr),
-        Step::Flush => flush(),
+        Step::Flush | Step::EventFlush => flush(),
         Step::Timing => Access::Write(Register::Timingr, words::timingr_word(c, d)),
-        Step::Own => Access::Write(Register::Oar1, words::oar1_word(config)),
-        Step::Secondary => Access::Write(Register::Oar2, words::oar2_word(config)),
+        Step::Own => Access::Write(Register::Oar1, words::oar1_word(d.config)),
+        Step::Secondary => Access::Write(Register::Oar2, words::oar2_word(d.config)),
         Step::Enable => enable(),
-        Step::Delay1 => Access::Read(Register::Cr1),
-        Step::Delay2 => Access::Read(Register::Cr1),
-        Step::Disabled => Access::Read(Register::Cr1),
-        Step::Event => Access::Read(Register::Isr),
-        Step::EventFlush => flush(),
-        Step::EventClear => clear_address(),
+        Step::Delay1 | Step::Delay2 | Step::Disabled => Access::Read(Register::Cr1),
+        Step::EventClear | Step::TransferClear => clear(Icr(Icr::RESET).with_addrcf(true)),
         Step::Address => Access::Read(Register::Oar1),
-        Step::TransferClear => clear_address(),
         Step::ModifyRead(m) => Access::Read(words::register_of(d, m)),
         Step::ModifyWrite(m) => Access::Write(
             words::register_of(d, m),
@@ -134,43 +114,39 @@ fn byte_register(v: View) -> Next
     ensures { (b : List ℕ) (s : SavedCall) → result ≡ next_of (byte_access v b s) }
 {
     if v.reads {
-        return Next::Read(Register::Rxdr);
+        Next::Read(Register::Rxdr)
+    } else {
+        Next::Write(Register::Txdr)
     }
-    Next::Write(Register::Txdr)
 }
 
+// By hand: a second match over the steps, since the register alone needs no byte of the buffer and no word.
 pub fn register_at(d: Description, v: View, s: SavedCall) -> Next
     ensures { (c : Call) (b : List ℕ) → result ≡ next_of (access_at c d v b s s.step) }
 {
-    let step = s.step;
-    match step {
+    match s.step {
         Step::Ended => Next::Over,
-        Step::Begin => Next::Write(Register::Cr2),
-        Step::StartStatus => Next::Read(Register::Isr),
+        Step::StartStatus | Step::Wait | Step::FlushTxis | Step::FlushTxe | Step::Event => {
+            Next::Read(Register::Isr)
+        }
         Step::StartControl => Next::Read(Register::Cr2),
-        Step::Wait => Next::Read(Register::Isr),
-        Step::Byte => byte_register(v),
-        Step::StopClear => Next::Write(Register::Icr),
-        Step::BusClear => Next::Write(Register::Icr),
-        Step::ArbitrationClear => Next::Write(Register::Icr),
-        Step::NackClear => Next::Write(Register::Icr),
-        Step::FlushTxis => Next::Read(Register::Isr),
+        Step::Delay1 | Step::Delay2 | Step::Disabled => Next::Read(Register::Cr1),
+        Step::Address => Next::Read(Register::Oar1),
+        Step::ModifyRead(m) => Next::Read(words::register_of(d, m)),
+        Step::Begin => Next::Write(Register::Cr2),
+        Step::StopClear
+        | Step::BusClear
+        | Step::ArbitrationClear
+        | Step::NackClear
+        | Step::EventClear
+        | Step::TransferClear => Next::Write(Register::Icr),
         Step::FlushByte => Next::Write(Register::Txdr),
-        Step::FlushTxe => Next::Read(Register::Isr),
-        Step::Flush => Next::Write(Register::Isr),
+        Step::Flush | Step::EventFlush => Next::Write(Register::Isr),
         Step::Timing => Next::Write(Register::Timingr),
         Step::Own => Next::Write(Register::Oar1),
         Step::Secondary => Next::Write(Register::Oar2),
         Step::Enable => Next::Write(Register::Cr1),
-        Step::Delay1 => Next::Read(Register::Cr1),
-        Step::Delay2 => Next::Read(Register::Cr1),
-        Step::Disabled => Next::Read(Register::Cr1),
-        Step::Event => Next::Read(Register::Isr),
-        Step::EventFlush => Next::Write(Register::Isr),
-        Step::EventClear => Next::Write(Register::Icr),
-        Step::Address => Next::Read(Register::Oar1),
-        Step::TransferClear => Next::Write(Register::Icr),
-        Step::ModifyRead(m) => Next::Read(words::register_of(d, m)),
         Step::ModifyWrite(m) => Next::Write(words::register_of(d, m)),
+        Step::Byte => byte_register(v),
     }
 }

@@ -2,9 +2,7 @@
 ghost use Rattle.std.specs.Prelude.{◌≡◌};
 ghost use Rattle.calls.specs.Words.{transfer, addressed, cr2_of, target_timing, timingr_of, own_word, secondary_word, oar1_of, oar2_of, listen_register, register_of, enabled_word, listen_word, alter_of};
 
-use calls::{
-    AddressMode, Call, Configuration, Description, MaskBits, Modify, SecondaryAddress, View,
-};
+use calls::{AddressMode, Call, Description, Modify, TargetConfig, View};
 use kinds::call;
 use registers::{Cr1, Cr2, Oar1, Oar2, Register};
 use timing::I2cTiming;
@@ -14,14 +12,15 @@ fn transfer_word(v: View) -> u32
 {
     let w = Cr2(Cr2::RESET).with_nbytes(v.size).with_rd_wrn(v.reads);
     if v.last {
-        return w.with_autoend(true).0;
+        w.with_autoend(true).0
+    } else if v.same {
+        w.with_reload(true).0
+    } else {
+        w.0
     }
-    if v.same {
-        return w.with_reload(true).0;
-    }
-    w.0
 }
 
+#[tactic(auto, using(crate::proofs::Fields::address_is_shifted))]
 fn with_address(mode: AddressMode, address: u32, again: bool, w: u32) -> u32
     ensures { result ≡ addressed mode address again w }
 {
@@ -36,37 +35,38 @@ fn with_address(mode: AddressMode, address: u32, again: bool, w: u32) -> u32
 }
 
 // Begins an operation; `again` where the start is repeated.
+#[tactic(auto, unfolding(calls::specs::Words::cr2_of))]
 pub fn cr2_word(d: Description, v: View, again: bool) -> u32
     ensures { result ≡ cr2_of d v again }
 {
     let w = transfer_word(v);
     if v.reload {
-        return w;
+        w
+    } else {
+        with_address(d.mode, d.address, again, Cr2(w).with_start(true).0)
     }
-    let mode = d.mode;
-    with_address(mode, d.address, again, Cr2(w).with_start(true).0)
 }
 
 fn target_timing(t: I2cTiming) -> I2cTiming
     ensures { result ≡ target_timing t }
 {
     I2cTiming {
-        presc: t.presc,
-        scldel: t.scldel,
-        sdadel: t.sdadel,
         sclh: 0,
         scll: 0,
+        ..t
     }
 }
 
+#[tactic(auto, unfolding(calls::specs::Words::timingr_of))]
 pub fn timingr_word(c: Call, d: Description) -> u32
     ensures { result ≡ timingr_of c d }
 {
-    let raw = d.timing;
-    let t = raw.unpack();
-    if call::is_call(c, Call::TargetNew) {
-        return target_timing(t).word().0;
-    }
+    let all = d.timing.unpack();
+    let t = if call::is_call(c, Call::TargetNew) {
+        target_timing(all)
+    } else {
+        all
+    };
     t.word().0
 }
 
@@ -79,103 +79,79 @@ fn own_word(mode: AddressMode, own: u32) -> u32
     }
 }
 
+// By hand: what OAR1 and OAR2 share is `map_or`.
 #[tactic(auto, unfolding(calls::specs::Words::oar1_of))]
-pub fn oar1_word(config: Configuration) -> u32
+pub fn oar1_word(config: Option<TargetConfig>) -> u32
     ensures { result ≡ oar1_of config }
 {
-    match config {
-        Configuration::Unconfigured => Oar1::RESET,
-        Configuration::Configured(t) => {
-            let mode = t.mode;
-            own_word(mode, t.own)
-        }
-    }
+    config.map_or(Oar1::RESET, |t| own_word(t.mode, t.own))
 }
 
-fn masked_word(address: u32, mask: MaskBits) -> u32
-    ensures { result ≡ secondary_word (SecondaryAddress.Secondary address) mask }
-{
-    match mask {
-        MaskBits::Unmasked => Oar2::secondary(address).0,
-        MaskBits::Masked(bits) => Oar2::masked(address, bits).0,
-    }
-}
-
-fn secondary_word(secondary: SecondaryAddress, mask: MaskBits) -> u32
+fn secondary_word(secondary: Option<u32>, mask: Option<u32>) -> u32
     ensures { result ≡ secondary_word secondary mask }
 {
-    match secondary {
-        SecondaryAddress::NoSecondary => Oar2::RESET,
-        SecondaryAddress::Secondary(address) => masked_word(address, mask),
+    match (secondary, mask) {
+        (None, _) => Oar2::RESET,
+        (Some(address), None) => Oar2::secondary(address).0,
+        (Some(address), Some(bits)) => Oar2::masked(address, bits).0,
     }
 }
 
 #[tactic(auto, unfolding(calls::specs::Words::oar2_of))]
-pub fn oar2_word(config: Configuration) -> u32
+pub fn oar2_word(config: Option<TargetConfig>) -> u32
     ensures { result ≡ oar2_of config }
 {
-    match config {
-        Configuration::Unconfigured => Oar2::RESET,
-        Configuration::Configured(t) => {
-            let secondary = t.secondary;
-            let mask = t.mask;
-            secondary_word(secondary, mask)
-        }
-    }
+    config.map_or(Oar2::RESET, |t| secondary_word(t.secondary, t.mask))
 }
 
 fn listen_register(kind: u32) -> Register
     ensures { result ≡ listen_register kind }
 {
-    if kind == 0 {
-        return Register::Cr1;
+    match kind {
+        0 => Register::Cr1,
+        1 => Register::Oar1,
+        _ => Register::Oar2,
     }
-    if kind == 1 {
-        return Register::Oar1;
-    }
-    Register::Oar2
 }
 
 pub fn register_of(d: Description, m: Modify) -> Register
     ensures { result ≡ register_of d m }
 {
     match m {
-        Modify::PeOff => Register::Cr1,
-        Modify::PeOn => Register::Cr1,
+        Modify::PeOff | Modify::PeOn | Modify::SbcOff | Modify::SbcOn => Register::Cr1,
         Modify::Listen => listen_register(d.listen),
-        Modify::NackSet => Register::Cr2,
-        Modify::ReloadOff => Register::Cr2,
-        Modify::SbcOff => Register::Cr1,
-        Modify::ReloadClear => Register::Cr2,
-        Modify::SbcOn => Register::Cr1,
-        Modify::ReloadOn => Register::Cr2,
-        Modify::NbytesSet => Register::Cr2,
+        Modify::NackSet
+        | Modify::ReloadOff
+        | Modify::ReloadClear
+        | Modify::ReloadOn
+        | Modify::NbytesSet => Register::Cr2,
     }
 }
 
 fn enabled_word(c: Call, w: u32) -> u32
     ensures { result ≡ enabled_word c w }
 {
-    if call::is_call(c, Call::TargetNew) {
-        return Cr1(w).with_anfoff(false).with_pe(true).0;
-    }
-    Cr1(w).with_pe(true).0
+    let w = if call::is_call(c, Call::TargetNew) {
+        Cr1(w).with_anfoff(false)
+    } else {
+        Cr1(w)
+    };
+    w.with_pe(true).0
 }
 
 fn listen_word(c: Call, kind: u32, w: u32) -> u32
     ensures { result ≡ listen_word c kind w }
 {
     let on = call::is_call(c, Call::EnableTargetEvent);
-    if kind == 0 {
-        return Cr1(w).with_gcen(on).0;
+    match kind {
+        0 => Cr1(w).with_gcen(on).0,
+        1 => Oar1(w).with_oa1en(on).0,
+        _ => Oar2(w).with_oa2en(on).0,
     }
-    if kind == 1 {
-        return Oar1(w).with_oa1en(on).0;
-    }
-    Oar2(w).with_oa2en(on).0
 }
 
 // What a modify writes, of the word that it read.
+// By hand: the modify is part of the saved step, so it is matched too.
 #[tactic(auto, unfolding(calls::specs::Words::alter_of))]
 pub fn alter(c: Call, d: Description, v: View, w: u32, m: Modify) -> u32
     ensures { result ≡ alter_of c d v w m }

@@ -2,47 +2,44 @@
 // no mask. Only here does that word mean so; in the core every word is an address.
 #![tactic(auto)]
 
-ghost use Rattle.std.specs.Prelude.{◌≡◌, cond, eqb};
-ghost use Rattle.calls.specs.Calls.{with_secondary, with_mask};
-ghost use Rattle.address_words.specs.Words.{none, mode_of, config_in};
+ghost use Rattle.std.specs.Prelude.{◌≡◌};
+ghost use Rattle.address_words.specs.Words.{mode_of, secondary_in, config_in};
 
 use calls::{AddressMode, TargetConfig};
 
+// By hand: a bench file and C write an address or none in one word.
 const NONE: u32 = 0xFFFF_FFFF;
 
+// By hand: `AddressMode` is of `calls`, and only here does a bool mean one.
 pub fn address_mode(ten: bool) -> AddressMode
     ensures { result ≡ mode_of ten }
 {
     if ten {
-        return AddressMode::AddressMode10bit;
+        AddressMode::AddressMode10bit
+    } else {
+        AddressMode::AddressMode7bit
     }
-    AddressMode::AddressMode7bit
 }
 
-fn with_secondary(t: TargetConfig, word: u32) -> TargetConfig
-    ensures { result ≡ cond (eqb word none) t (with_secondary word t) }
+// What a word says, of a mask as of a secondary address.
+fn some_unless_none(word: u32) -> Option<u32>
+    ensures { result ≡ secondary_in word }
 {
-    if word == NONE {
-        return t;
-    }
-    t.secondary_address(word)
-}
-
-fn with_mask(t: TargetConfig, word: u32) -> TargetConfig
-    ensures { result ≡ cond (eqb word none) t (with_mask word t) }
-{
-    if word == NONE {
-        return t;
-    }
-    t.secondary_address_mask_bits(word)
+    (word != NONE).then_some(word)
 }
 
 // Each word goes in by its setter.
 pub fn config(own: u32, ten: u32, secondary: u32, mask: u32) -> TargetConfig
     ensures { result ≡ config_in own ten secondary mask }
 {
-    let addressed = TargetConfig::new(0)
+    let mut config = TargetConfig::new(0)
         .own_address(own)
         .own_address_mode(address_mode(ten != 0));
-    with_mask(with_secondary(addressed, secondary), mask)
+    if let Some(address) = some_unless_none(secondary) {
+        config = config.secondary_address(address);
+    }
+    if let Some(bits) = some_unless_none(mask) {
+        config = config.secondary_address_mask_bits(bits);
+    }
+    config
 }

@@ -1,13 +1,14 @@
 -- A piece of an advance over bytes, and what follows it. Assumes nothing.
-use Prim.Native.Nat.{ℕ, ◌+◌, ◌-◌, ◌*◌, ◌/◌, ◌≤◌, ◌<◌, min}
+use Prim.Native.Nat.{ℕ, zero, suc, ◌+◌, ◌-◌, ◌*◌, ◌/◌, ◌≤◌, ◌<◌, min}
 use native.Mathlib.Omega.{arith}
-use mathlib.Core.Path.{◌≡◌, sym, ◌∙◌}
-use mathlib.Core.Bool.{true, false}
+use mathlib.Core.Path.{◌≡◌, refl, sym, ◌∙◌}
+use mathlib.Core.Bool.{true, false, cond}
 use mathlib.Core.List.{List, ◌++◌}
 use lib.ListN.{length, take, drop}
 use lib.Seq.{length-take-le}
 use Rattle.calls.proofs.Reached as come
 use Rattle.calls.proofs.Cut.{two_each}
+use Rattle.calls.proofs.Logic.{by_test, both, is_true, is_false}
 use Rattle.calls.specs.Joined.{is_full, Reached, as_reached, not_yet, reached_by, go_on, rest_from}
 use Rattle.calls.specs.Run.{Entry, words_of, run_of, Final, final_of}
 use Rattle.calls.specs.declared.Advanced.{Advanced}
@@ -45,6 +46,12 @@ in_bytes_holds w n log h es fs le =
     let e : 2 * (w + length es) ≡ 2 * w + length (words_of es) = omega arith in
     rw e (put_twice (2 * w) (words_of es) (words_of fs) log (omega arith))
 
+-- ---- after a piece that is not full nothing is left
+pub no_rest : (d : Description) (ops l : List ℕ) (G : Reached (List ℕ)) → is_full G.advanced.report ≡ false → (m : ℕ) →
+    rest_from in_bytes d ops l m G ≡ G
+no_rest d ops l G f zero = refl
+no_rest d ops l G f (suc m) = rw f
+
 -- ---- a piece over as many as K of the n places that the log has left after t
 module _ (d : Description) (ops answers : List ℕ) (t : Advanced) (b log : List ℕ) (t' : Advanced) (b' log' : List ℕ) (K n : ℕ)
     (E : as_reached t' b' log' ≡ go_on in_bytes d ops (words_in answers) (min K (length log / 8 - t.written)) (as_reached t b log))
@@ -79,6 +86,16 @@ module _ (d : Description) (ops answers : List ℕ) (t : Advanced) (b log : List
         let all = come.all_written in_bytes d ops (words_in answers) F (min K n) n (omega arith) G came f in
         come.goes_on in_bytes d ops (words_in answers) F (min K n) n (omega arith) G came W whole
         (in_bytes_holds t.written n log (omega arith)) f (length log' / 8 - t'.written) (rw kept (omega arith))
+
+    -- either way the rest comes to W
+    pub turn_left : rest_from in_bytes d ops (words_in answers) (length log' / 8 - t'.written) G ≡ W
+    turn_left =
+        both (is_full t'.report) (λ h. turn_goes (is_true (is_full t'.report) h))
+        (λ h. let f = is_false (is_full t'.report) h in no_rest d ops (words_in answers) G f (length log' / 8 - t'.written) ∙ turn_ends f)
+
+  pub turn_smaller : 0 < K → 0 < n → cond (is_full t'.report) (1 + (length log' / 8 - t'.written)) 0 < 1 + n
+  turn_smaller k h =
+      by_test (λ (m : ℕ). m < 1 + n) (is_full t'.report) (λ f. omega (arith, turn_less k h (is_true (is_full t'.report) f))) (λ f. omega arith)
 
 -- the first piece is made of all places
 pub first_whole : (d : Description) (ops l : List ℕ) (s : SavedCall) (b log : List ℕ) →

@@ -1,5 +1,6 @@
 -- With document 01's five bands the timing by a table is document 01's timing, for every clock and every frequency of 32 bits. That its two
 -- limits of the ratio follow from the rows is shown here. Assumes nothing.
+use Rattle.std.specs.Prelude.{Some, Result, Err}
 use Prim.Native.Nat.{ℕ, ◌+◌, ◌-◌, ◌*◌, ◌/◌, ◌≤◌, ◌<◌, min}
 use native.Mathlib.Nat.{div-mul-le_self, mul-le-mul_left, mul-le-mul_right}
 use native.Mathlib.Omega.{arith}
@@ -11,16 +12,15 @@ use borrow.Author.Tests.{lt-leb, le-leb, ne_eqb, ltb-false, leb-true, leb-false}
 use Rattle.timing.specs.Bands.{bands, above, first_up_to, band_of, divider_of, equal_at, double_at, shaped_of, in_band_of, timing_of}
 use Rattle.timing.specs.declared.Band.{Band}
 use Rattle.timing.specs.declared.Shape.TheVariants.{Equal, Double}
-use Rattle.timing.specs.declared.Timed.{Timed}
-use Rattle.timing.specs.declared.Timed.TheVariants.{Refused}
 use Rattle.timing.specs.declared.TimingRefusal.TheVariants.{Ratio}
 use Rattle.bands.specs.Bands.{accepted, band_for, settled, shaped_in, in_row, by_row, by_found, timing_by, five_bands}
 use Rattle.bands.specs.Bounds.{Sound, SoundIn, Divider}
-use Rattle.bands.specs.declared.Found.TheVariants.{Row}
 use Rattle.bands.proofs.Either.{either, by_bool}
 use Rattle.bands.proofs.Quotients.{quot_ge, quot_lt, divides, most_steps}
 use Rattle.bands.proofs.Tables.{sound_row, sound_found}
 use Rattle.bands.proofs.Shapes.{prescaler_over, high_over, all_fit}
+use Rattle.timing.specs.declared.I2cTiming.{I2cTiming}
+use Rattle.timing.specs.declared.TimingRefusal.{TimingRefusal}
 
 by_limit : {P : Type 0} (k r : ℕ) → (k ≤ r → P) → (r < k → P) → P
 by_limit k r f g = by_bool (leb k r) (λ e. f (leb-true k r e)) (λ e. g (leb-false k r e))
@@ -113,7 +113,7 @@ module _ (clock frequency : ℕ) (ratio : 4 ≤ clock / frequency) where
       (λ _. setup_left clock frequency 400000 4000000 (omega arith) ratio (leb-false frequency 400000 f) (λ g. omega arith))))))
 
 -- two answers after the same test
-after : (t : Bool) (x y z : Timed) → (t ≡ false → y ≡ z) → cond t x y ≡ cond t x z
+after : (t : Bool) (x y z : Result I2cTiming TimingRefusal) → (t ≡ false → y ≡ z) → cond t x y ≡ cond t x z
 after true x y z f = refl
 after false x y z f = f refl
 
@@ -123,20 +123,20 @@ in_row_same clock frequency ratio =
     after (ltb clock (band_of frequency).least) _ _ _ (λ e. row_same clock frequency ratio (ltb-false clock (band_of frequency).least e))
 
 by_row_same : (clock frequency : ℕ)
-    → by_row clock frequency (band_of frequency) ≡ cond (ltb (clock / frequency) 4) (Refused Ratio) (in_band_of clock (clock / frequency) (band_of frequency))
+    → by_row clock frequency (band_of frequency) ≡ cond (ltb (clock / frequency) 4) (Err Ratio) (in_band_of clock (clock / frequency) (band_of frequency))
 by_row_same clock frequency =
     after (ltb (clock / frequency) 4) _ _ _ (λ e. in_row_same clock frequency (ltb-false (clock / frequency) 4 e))
 
-pub by_five : (clock frequency : ℕ) → by_found clock frequency (Row (band_of frequency)) ≡ timing_of clock frequency
+pub by_five : (clock frequency : ℕ) → by_found clock frequency (Some (band_of frequency)) ≡ timing_of clock frequency
 unfolding by_found timing_of
 by_five clock frequency = after (eqb frequency 0) _ _ _ (λ _. after (ltb 250000000 clock) _ _ _ (λ _. by_row_same clock frequency))
 
 -- ---- the table
-row_cond : (t : Bool) (a b : Band) → cond t (Row a) (Row b) ≡ Row (cond t a b)
+row_cond : (t : Bool) (a b : Band) → cond t (Some a) (Some b) ≡ Some (cond t a b)
 row_cond true a b = refl
 row_cond false a b = refl
 
-found_first : (frequency : ℕ) (bs : List Band) → frequency ≤ above.upper → band_for frequency (bs ++ (above ∷ [])) ≡ Row (first_up_to frequency bs)
+found_first : (frequency : ℕ) (bs : List Band) → frequency ≤ above.upper → band_for frequency (bs ++ (above ∷ [])) ≡ Some (first_up_to frequency bs)
 found_first frequency [] h = rw (le-leb frequency above.upper h)
 found_first frequency (b ∷ bs) h = rw (found_first frequency bs h) (row_cond (leb frequency b.upper) b (first_up_to frequency bs))
 

@@ -1,4 +1,5 @@
 -- What `BandPromises` promises. Assumes nothing.
+use Rattle.std.specs.Prelude.{Option, Some, None, Result, Ok, Err}
 use Prim.Native.Nat.{ℕ, zero, suc, ◌-◌, ◌*◌, ◌/◌, ◌%◌, ◌≤◌, ◌<◌}
 use native.Mathlib.Omega.{arith}
 use mathlib.Core.Logic.{◌≢◌}
@@ -20,20 +21,17 @@ use Rattle.timing.specs.declared.Band.{Band}
 use Rattle.timing.specs.declared.I2cTiming.{I2cTiming}
 use Rattle.timing.specs.declared.Shape.{Shape}
 use Rattle.timing.specs.declared.Shape.TheVariants.{Equal, Double}
-use Rattle.timing.specs.declared.Timed.{Timed}
-use Rattle.timing.specs.declared.Timed.TheVariants.{Timing, Refused}
 use Rattle.timing.specs.declared.TimingRefusal.TheVariants.{BadBands, NoBand}
 use Rattle.bands.specs.Bands.{sound, all_sound, rising_above, rising, accepted, held_in, high_in, low_in, settled, shaped_in, in_row, band_for, by_row, in_found, by_found, timing_by}
 use Rattle.bands.specs.Bounds.{Sound}
 use Rattle.bands.specs.Promises.{row_at, Rule, Words, BandPromises}
 use Rattle.bands.specs.Table.{shape_of, shape_number, row_words, table_of, band_in, bands_from, named, bands_in}
-use Rattle.bands.specs.declared.Found.{Found}
-use Rattle.bands.specs.declared.Found.TheVariants.{Row, Above}
 use Rattle.bands.proofs.Either.{either}
 use Rattle.bands.proofs.Fits.{Fits, bands_fit}
 use Rattle.bands.proofs.Five.{five_bands_holds}
 use Rattle.bands.proofs.Quotients.{divides, quot_ge}
 use Rattle.bands.proofs.Tables.{sound_row, bands_are}
+use Rattle.timing.specs.declared.TimingRefusal.{TimingRefusal}
 
 -- ---- the rule
 is_so : (t : Bool) → T t → t ≡ true
@@ -112,11 +110,11 @@ accepts bs R =
         rw (le-leb 8 (row_at bs i).d (R.d_least i h), le-leb (row_at bs i).d 256 (R.d_most i h), le-leb 1 (row_at bs i).sdadel (omega arith), le-leb 1 (row_at bs i).scldel (omega arith))
 
 -- ---- refusals 16 and 17
-abbrev number_in : Timed → ℕ
-number_in (Timing t) = 0
-number_in (Refused why) = timing_refusal_number why
+abbrev number_in : Result I2cTiming TimingRefusal → ℕ
+number_in (Ok t) = 0
+number_in (Err why) = timing_refusal_number why
 
-abbrev Later : Timed → Type 0
+abbrev Later : Result I2cTiming TimingRefusal → Type 0
 Later t = number_in t < 16
 
 shaped_later : (s : Shape) (clock r : ℕ) (b : Band) → Later (shaped_in s clock r b)
@@ -137,20 +135,20 @@ by_row_later clock frequency b = either Later (ltb (clock / frequency) 4) _ _ (�
 
 -- what can be said of a refusal, by where it was given: 16 by the table, 17 by the rows, the others later
 module _ (bs : List Band) (clock frequency : ℕ) where
-  bad_first : accepted bs ≡ false → timing_by bs clock frequency ≡ Refused BadBands
+  bad_first : accepted bs ≡ false → timing_by bs clock frequency ≡ Err BadBands
   unfolding timing_by
   bad_first e = rw e
 
-  abbrev Told : Timed → Type 0
-  Told t = ((t ≡ Refused BadBands → accepted bs ≡ false)
-      × (t ≡ Refused NoBand → (accepted bs ≡ true) × (frequency ≢ 0) × (clock ≤ 250000000) × (band_for frequency bs ≡ Above)))
+  abbrev Told : Result I2cTiming TimingRefusal → Type 0
+  Told t = ((t ≡ Err BadBands → accepted bs ≡ false)
+      × (t ≡ Err NoBand → (accepted bs ≡ true) × (frequency ≢ 0) × (clock ≤ 250000000) × (band_for frequency bs ≡ None)))
 
-  later_told : (t : Timed) → Later t → Told t
+  later_told : (t : Result I2cTiming TimingRefusal) → Later t → Told t
   later_told t n = ((λ e. absurd (omega (arith, n, ap number_in e))), (λ e. absurd (omega (arith, n, ap number_in e))))
 
-  row_told : accepted bs ≡ true → frequency ≢ 0 → clock ≤ 250000000 → (found : Found) → band_for frequency bs ≡ found → Told (in_found clock frequency found)
-  row_told a n m (Row b) e = later_told _ (by_row_later clock frequency b)
-  row_told a n m Above e = ((λ f. absurd (omega (arith, ap number_in f))), (λ f. (a, n, m, e)))
+  row_told : accepted bs ≡ true → frequency ≢ 0 → clock ≤ 250000000 → (found : Option Band) → band_for frequency bs ≡ found → Told (in_found clock frequency found)
+  row_told a n m (Some b) e = later_told _ (by_row_later clock frequency b)
+  row_told a n m None e = ((λ f. absurd (omega (arith, ap number_in f))), (λ f. (a, n, m, e)))
 
   told : Told (timing_by bs clock frequency)
   unfolding timing_by by_found
@@ -161,20 +159,20 @@ module _ (bs : List Band) (clock frequency : ℕ) where
       (λ m. row_told a (eqb-false frequency 0 n) (ltb-false 250000000 clock m) (band_for frequency bs) refl)))
       (λ a. ((λ _. a), (λ f. absurd (omega (arith, ap number_in f)))))
 
-  above_first : accepted bs ≡ true → frequency ≢ 0 → clock ≤ 250000000 → band_for frequency bs ≡ Above → timing_by bs clock frequency ≡ Refused NoBand
+  above_first : accepted bs ≡ true → frequency ≢ 0 → clock ≤ 250000000 → band_for frequency bs ≡ None → timing_by bs clock frequency ≡ Err NoBand
   unfolding timing_by by_found
   above_first a n m e = rw (a, ne_eqb frequency 0 n, le-ltb 250000000 clock m, e)
 
 -- no row is found exactly if every row ends below the frequency
-none_found : (frequency : ℕ) (bs : List Band) → ((i : ℕ) → i < length bs → (row_at bs i).upper < frequency) → band_for frequency bs ≡ Above
+none_found : (frequency : ℕ) (bs : List Band) → ((i : ℕ) → i < length bs → (row_at bs i).upper < frequency) → band_for frequency bs ≡ None
 none_found frequency [] f = refl
 none_found frequency (b ∷ bs) f = rw (lt-leb frequency b.upper (f zero (omega arith))) (none_found frequency bs (λ i h. f (suc i) (omega arith)))
 
-abbrev IsAbove : Found → Type 0
-IsAbove Above = Unit {0}
-IsAbove (Row b) = ⊥
+abbrev IsAbove : Option Band → Type 0
+IsAbove None = Unit {0}
+IsAbove (Some b) = ⊥
 
-not_row : (t : Bool) (b : Band) (found : Found) → IsAbove (cond t (Row b) found) → (t ≡ false) × IsAbove found
+not_row : (t : Bool) (b : Band) (found : Option Band) → IsAbove (cond t (Some b) found) → (t ≡ false) × IsAbove found
 not_row true b found h = absurd h
 not_row false b found h = (refl, h)
 
@@ -298,7 +296,7 @@ written_back bytes below good =
     whole = (let e = eqb→eq (length bytes % 24) 0 (and_l (eqb (length bytes % 24) 0) (named (length bytes / 24) bytes) both) in omega arith)
 
 -- ---- what fits
-fitted : (t : Timed) (u : I2cTiming) → Fits t → t ≡ Timing u → round.Within u
+fitted : (t : Result I2cTiming TimingRefusal) (u : I2cTiming) → Fits t → t ≡ Ok u → round.Within u
 fitted t u f e = subst Fits e f
 
 pub band_promises : BandPromises

@@ -32,8 +32,5 @@ divides r d h l m =
     f₄ = mul-le-mul_left q m
 
 -- how many steps a cycle has
-pub least_steps : {r p : ℕ} → 1 ≤ p → 4 * p ≤ r → 4 ≤ r / p
-least_steps {r} {p} h l = quot_ge 4 r p h l
-
 pub most_steps : {r d p : ℕ} → Divider r d p → r / p ≤ 256
 most_steps {r} {d} {p} u = omega (arith, quot_lt 257 r p u.some (omega arith))

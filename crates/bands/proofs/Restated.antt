@@ -1,6 +1,7 @@
 -- What `calc_timing_params`, `load` and `timing_by` give a caller, and what is promised of speed bands, once more and in plain arithmetic:
 -- document 01's table row by row, and a row of a board's own table. Nothing rests on this file: a contract or a promise that loses a
 -- fact, and its proof with it, fails here. Assumes nothing.
+use Rattle.std.specs.Prelude.{Some, Result, Ok, Err}
 use Prim.Native.Nat.{ℕ, zero, suc, ◌+◌, ◌-◌, ◌*◌, ◌/◌, ◌%◌, ◌≤◌, ◌<◌, min, max}
 use native.Mathlib.Omega.{arith}
 use mathlib.Core.Logic.{◌≢◌}
@@ -19,18 +20,13 @@ use Rattle.timing.specs.Bands.{timing_of, band_of, in_band_of, equal_at, double_
 use Rattle.timing.specs.Timingr.{raw_of, pack_of}
 use Rattle.timing.specs.declared.Band.{Band}
 use Rattle.timing.specs.declared.I2cTiming.{I2cTiming}
-use Rattle.timing.specs.declared.Packed.TheVariants.{Raw}
 use Rattle.timing.specs.declared.Shape.{Shape}
 use Rattle.timing.specs.declared.Shape.TheVariants.{Equal, Double}
 use Rattle.timing.specs.declared.TimingRefusal.TheVariants.{NoSpeed, ClockOver, Ratio, ClockSlow, SpeedLow, NoSetup, BadBands, NoBand}
-use Rattle.timing.specs.declared.Timed.{Timed}
-use Rattle.timing.specs.declared.Timed.TheVariants.{Timing, Refused}
 use Rattle.bands.specs.Bands.{accepted, held_in, loaded_of, settled, shaped_in, in_row, band_for, by_found, timing_by, five_bands}
 use Rattle.bands.specs.Bounds.{Sound, SoundIn}
 use Rattle.bands.specs.Promises.{row_at, Rule, Words}
 use Rattle.bands.specs.Table.{table_of, bands_in}
-use Rattle.bands.specs.declared.Loaded.TheVariants.{Accepted, Refused as NotLoaded}
-use Rattle.bands.specs.declared.Found.TheVariants.{Row}
 use Rattle.bands.proofs.Promised.{band_promises}
 use Rattle.bands.proofs.Quotients.{divides, most_steps}
 use Rattle.bands.proofs.Tables.{sound_found, all_sound_holds}
@@ -44,6 +40,7 @@ use Rattle.bands.proofs.load.Reads as load-reads
 use Rattle.bands.specs.contracts.timing_by as timing-by
 use Rattle.bands.proofs.timing_by.Kinds as timing-by-kinds
 use Rattle.bands.proofs.timing_by.Reads as timing-by-reads
+use Rattle.timing.specs.declared.TimingRefusal.{TimingRefusal}
 
 -- ---- No function asks anything of its caller.
 
@@ -59,13 +56,13 @@ timing_by_asks_nothing κs a = tt
 -- ---- The timing of a clock and a frequency, r being their ratio
 
 -- up to 100 kHz
-abbrev standard : ℕ → ℕ → ℕ → Timed
+abbrev standard : ℕ → ℕ → ℕ → Result I2cTiming TimingRefusal
 standard d clock r =
     let p : ℕ = min 16 ((r - 1) / d + 1) in
-    cond (ltb clock 2000000) (Refused ClockSlow)
-    (cond (leb 8224 r) (Refused SpeedLow)
-    (cond (eqb (clock / 500000 / p) 0) (Refused NoSetup)
-    (Timing (record {
+    cond (ltb clock 2000000) (Err ClockSlow)
+    (cond (leb 8224 r) (Err SpeedLow)
+    (cond (eqb (clock / 500000 / p) 0) (Err NoSetup)
+    (Ok (record {
       presc = p - 1;
       scldel = min 15 (max 4 (clock / 500000 / p - 1));
       sdadel = min 15 (max 1 (clock / 2000000 / p));
@@ -74,12 +71,12 @@ standard d clock r =
     }))))
 
 -- above: the least clock and the two columns of the row
-abbrev fast : ℕ → ℕ → ℕ → ℕ → ℕ → Timed
+abbrev fast : ℕ → ℕ → ℕ → ℕ → ℕ → Result I2cTiming TimingRefusal
 fast least sdadel scldel clock r =
     let p : ℕ = (r - 1) / 96 + 1 in
-    cond (ltb clock least) (Refused ClockSlow)
-    (cond (leb 1537 r) (Refused SpeedLow)
-    (Timing (record {
+    cond (ltb clock least) (Err ClockSlow)
+    (cond (leb 1537 r) (Err SpeedLow)
+    (Ok (record {
       presc = p - 1;
       scldel = min 15 (max 4 (clock / scldel / p - 1));
       sdadel = min 15 (max 1 (clock / sdadel / p));
@@ -95,17 +92,17 @@ module _ (κs : Lfts 0) (a : borrow.Fn.World.ArgsD calc.signature κs) (t : borr
   abbrev frequency : ℕ
   frequency = a.1.0
 
-  pub refused_1 : frequency ≡ 0 → t ≡ Refused NoSpeed
+  pub refused_1 : frequency ≡ 0 → t ≡ Err NoSpeed
   unfolding timing_of
   refused_1 e = contract ∙ rw (eq-eqb frequency 0 e)
 
   module _ (some : frequency ≢ 0) where
-    pub refused_2 : 250000000 < clock → t ≡ Refused ClockOver
+    pub refused_2 : 250000000 < clock → t ≡ Err ClockOver
     unfolding timing_of
     refused_2 h = contract ∙ rw (ne_eqb frequency 0 some, lt-ltb 250000000 clock h)
 
     module _ (most : clock ≤ 250000000) where
-      pub refused_3 : clock / frequency < 4 → t ≡ Refused Ratio
+      pub refused_3 : clock / frequency < 4 → t ≡ Err Ratio
       unfolding timing_of
       refused_3 h = contract ∙ rw (ne_eqb frequency 0 some, le-ltb 250000000 clock most, lt-ltb (clock / frequency) 4 h)
 
@@ -146,7 +143,7 @@ module _ (κs : Lfts 0) (a : borrow.Fn.World.ArgsD calc.signature κs) (t : borr
 
 -- ---- Loading a table
 
-by_accepted : (t : Bool) → (t ≡ true → ⊥) → cond t Accepted (NotLoaded BadBands) ≡ NotLoaded BadBands
+by_accepted : (t : Bool) → (t ≡ true → ⊥) → let bad : Result (Unit {0}) TimingRefusal = Err BadBands in cond t (Ok tt) bad ≡ bad
 by_accepted true n = absurd (n refl)
 by_accepted false n = refl
 
@@ -155,11 +152,11 @@ module _ (κs : Lfts 1) (a : borrow.Fn.World.ArgsD load.signature κs) (l : borr
   abbrev loaded_rows : List Band
   loaded_rows = bands_in a.0.now
 
-  pub loaded : Rule loaded_rows → l ≡ Accepted
+  pub loaded : Rule loaded_rows → l ≡ (Ok tt)
   unfolding loaded_of
   loaded R = contract ∙ rw (band_promises.accepts loaded_rows R)
 
-  pub not_loaded : (Rule loaded_rows → ⊥) → l ≡ NotLoaded BadBands
+  pub not_loaded : (Rule loaded_rows → ⊥) → l ≡ Err BadBands
   unfolding loaded_of
   not_loaded n = contract ∙ by_accepted (accepted loaded_rows) (λ e. n (band_promises.only_so loaded_rows e))
 
@@ -176,26 +173,26 @@ module _ (κs : Lfts 1) (a : borrow.Fn.World.ArgsD timing-by.signature κs) (t :
   abbrev bus : ℕ
   bus = a.1.1.0
 
-  pub refused_16 : accepted rows ≡ false → t ≡ Refused BadBands
+  pub refused_16 : accepted rows ≡ false → t ≡ Err BadBands
   refused_16 e = contract ∙ band_promises.bad_first rows kernel bus e
 
   module _ (good : accepted rows ≡ true) where
-    pub refused_1_by : bus ≡ 0 → t ≡ Refused NoSpeed
+    pub refused_1_by : bus ≡ 0 → t ≡ Err NoSpeed
     unfolding timing_by by_found
     refused_1_by e = contract ∙ rw (good, eq-eqb bus 0 e)
 
     module _ (some : bus ≢ 0) where
-      pub refused_2_by : 250000000 < kernel → t ≡ Refused ClockOver
+      pub refused_2_by : 250000000 < kernel → t ≡ Err ClockOver
       unfolding timing_by by_found
       refused_2_by h = contract ∙ rw (good, ne_eqb bus 0 some, lt-ltb 250000000 kernel h)
 
       module _ (most : kernel ≤ 250000000) where
-        pub refused_17 : ((i : ℕ) → i < length rows → (row_at rows i).upper < bus) → t ≡ Refused NoBand
+        pub refused_17 : ((i : ℕ) → i < length rows → (row_at rows i).upper < bus) → t ≡ Err NoBand
         refused_17 f = contract ∙ band_promises.above_first rows kernel bus good some most f
 
         -- a row that is found: 3, 4, 5, 6 or a timing
-        module _ (b : Band) (found : band_for bus rows ≡ Row b) where
-          pub refused_3_by : kernel / bus < 4 → t ≡ Refused Ratio
+        module _ (b : Band) (found : band_for bus rows ≡ Some b) where
+          pub refused_3_by : kernel / bus < 4 → t ≡ Err Ratio
           unfolding timing_by by_found
           refused_3_by h = contract ∙ rw (good, ne_eqb bus 0 some, le-ltb 250000000 kernel most, found, lt-ltb (kernel / bus) 4 h)
 
@@ -204,7 +201,7 @@ module _ (κs : Lfts 1) (a : borrow.Fn.World.ArgsD timing-by.signature κs) (t :
             unfolding timing_by by_found
             in_its_row = contract ∙ rw (good, ne_eqb bus 0 some, le-ltb 250000000 kernel most, found, le-ltb (kernel / bus) 4 ratio)
 
-            pub refused_4_by : kernel < b.least → t ≡ Refused ClockSlow
+            pub refused_4_by : kernel < b.least → t ≡ Err ClockSlow
             unfolding in_row
             refused_4_by h = in_its_row ∙ rw (lt-ltb kernel b.least h)
 
@@ -224,10 +221,10 @@ module _ (κs : Lfts 1) (a : borrow.Fn.World.ArgsD timing-by.signature κs) (t :
                 abbrev half : ℕ
                 half = (kernel / bus / p - 2) / 2
 
-                pub equal_5 : 255 < half → t ≡ Refused SpeedLow
+                pub equal_5 : 255 < half → t ≡ Err SpeedLow
                 equal_5 h = shaped ∙ as_shape Equal equal ∙ sym (high_over Equal kernel (kernel / bus) b p refl h)
 
-                pub equal_6_or_timing : half ≤ 255 → t ≡ cond (eqb (kernel / b.scldel / p) 0) (Refused NoSetup) (Timing (record {
+                pub equal_6_or_timing : half ≤ 255 → t ≡ cond (eqb (kernel / b.scldel / p) 0) (Err NoSetup) (Ok (record {
                   presc = p - 1;
                   scldel = min 15 (max 4 (kernel / b.scldel / p - 1));
                   sdadel = min 15 (max 1 (kernel / b.sdadel / p));
@@ -245,10 +242,10 @@ module _ (κs : Lfts 1) (a : borrow.Fn.World.ArgsD timing-by.signature κs) (t :
                 abbrev high : ℕ
                 high = (kernel / bus / q - 3) / 3
 
-                pub double_5 : 16 < q → t ≡ Refused SpeedLow
+                pub double_5 : 16 < q → t ≡ Err SpeedLow
                 double_5 h = shaped ∙ as_shape Double double ∙ sym (prescaler_over Double kernel (kernel / bus) b q refl h)
 
-                pub double_6_or_timing : q ≤ 16 → t ≡ cond (eqb (kernel / b.scldel / q) 0) (Refused NoSetup) (Timing (record {
+                pub double_6_or_timing : q ≤ 16 → t ≡ cond (eqb (kernel / b.scldel / q) 0) (Err NoSetup) (Ok (record {
                   presc = q - 1;
                   scldel = min 15 (max 4 (kernel / b.scldel / q - 1));
                   sdadel = min 15 (max 1 (kernel / b.sdadel / q));
@@ -280,19 +277,19 @@ not_whole bytes n = rw (ne_eqb (length bytes % 24) 0 n)
 true_not_false : true ≡ false → ⊥
 true_not_false e = subst T e tt
 
-pub never_16 : (bs : List Band) (clock frequency : ℕ) → Rule bs → timing_by bs clock frequency ≢ Refused BadBands
+pub never_16 : (bs : List Band) (clock frequency : ℕ) → Rule bs → timing_by bs clock frequency ≢ Err BadBands
 never_16 bs clock frequency R e =
     absurd (true_not_false (sym (band_promises.accepts bs R) ∙ band_promises.bad_only bs clock frequency e))
 
 -- 17 comes before 3: of an accepted table whose one row ends at 9, at a clock of 0
-pub seventeen_before_three : (b : Band) → Rule (b ∷ []) → b.upper ≡ 9 → timing_by (b ∷ []) 0 10 ≡ Refused NoBand
+pub seventeen_before_three : (b : Band) → Rule (b ∷ []) → b.upper ≡ 9 → timing_by (b ∷ []) 0 10 ≡ Err NoBand
 seventeen_before_three b R e = band_promises.above_first (b ∷ []) 0 10 (band_promises.accepts (b ∷ []) R) (omega arith) (omega arith) (λ i h. only i h)
   where
     only : (i : ℕ) → i < 1 → (row_at (b ∷ []) i).upper < 10
     only zero h = rw e (omega arith)
     only (suc i) h = absurd (omega arith)
 
-pub seventeen_only : (bs : List Band) (clock frequency i : ℕ) → timing_by bs clock frequency ≡ Refused NoBand → i < length bs →
+pub seventeen_only : (bs : List Band) (clock frequency i : ℕ) → timing_by bs clock frequency ≡ Err NoBand → i < length bs →
     ((row_at bs i).upper < frequency) × (frequency ≢ 0) × (clock ≤ 250000000) × (1 ≤ length bs)
 seventeen_only bs clock frequency i e h =
     (let (a, n, m, f) = band_promises.above_only bs clock frequency e in (f i h, n, m, (band_promises.only_so bs a).some))
@@ -306,11 +303,11 @@ five_rows = refl
 pub at_least_four : (bs : List Band) → Rule bs → 4 ≤ 4 / held_in (row_at bs 0).shape (divider_of 4 (row_at bs 0).d)
 at_least_four bs R = band_promises.steps bs 0 4 (band_promises.accepts bs R) R.some (omega arith)
 
-pub sum_of_fields : (bs : List Band) (clock frequency : ℕ) (t : I2cTiming) → timing_by bs clock frequency ≡ Timing t →
+pub sum_of_fields : (bs : List Band) (clock frequency : ℕ) (t : I2cTiming) → timing_by bs clock frequency ≡ Ok t →
     t.presc + t.scldel + t.sdadel + t.sclh + t.scll ≤ 555
 sum_of_fields bs clock frequency t e = (let (a, b, c, d, f) = band_promises.fits bs clock frequency t e in omega arith)
 
-pub packed_whole : (bs : List Band) (clock frequency : ℕ) (t : I2cTiming) → timing_by bs clock frequency ≡ Timing t → pack_of t ≡ Raw (raw_of t)
+pub packed_whole : (bs : List Band) (clock frequency : ℕ) (t : I2cTiming) → timing_by bs clock frequency ≡ Ok t → pack_of t ≡ Ok (raw_of t)
 packed_whole = band_promises.packs
 
 pub one_table : (bs bs' : List Band) → Words bs → Words bs' → table_of bs ≡ table_of bs' → bs ≡ bs'

@@ -1,4 +1,5 @@
 -- A row's answer from what the code has worked out: a prescaler and a cycle of r / p steps. Assumes nothing.
+use Rattle.std.specs.Prelude.{Err}
 use Prim.Native.Nat.{ℕ, ◌/◌, ◌≤◌, ◌<◌}
 use mathlib.Core.Path.{◌≡◌, refl}
 use mathlib.Core.Bool.{Bool, true, false, ◌||◌}
@@ -7,7 +8,6 @@ use lib.Dec.{ltb}
 use Rattle.timing.specs.Bands.{divider_of}
 use Rattle.timing.specs.declared.Band.{Band}
 use Rattle.timing.specs.declared.Shape.{Shape}
-use Rattle.timing.specs.declared.Timed.TheVariants.{Refused}
 use Rattle.timing.specs.declared.TimingRefusal.TheVariants.{SpeedLow}
 use Rattle.bands.specs.Bands.{held_in, high_in, low_in, settled, shaped_in}
 
@@ -16,11 +16,11 @@ or_true true = refl
 or_true false = refl
 
 module _ (s : Shape) (clock r : ℕ) (b : Band) (p : ℕ) (is : p ≡ held_in s (divider_of r b.d)) where
-  pub prescaler_over : 16 < p → Refused SpeedLow ≡ shaped_in s clock r b
+  pub prescaler_over : 16 < p → Err SpeedLow ≡ shaped_in s clock r b
   unfolding shaped_in
   prescaler_over h = rw (← is, lt-ltb 16 p h)
 
-  pub high_over : 255 < high_in s (r / p) → Refused SpeedLow ≡ shaped_in s clock r b
+  pub high_over : 255 < high_in s (r / p) → Err SpeedLow ≡ shaped_in s clock r b
   unfolding shaped_in
   high_over h = rw (← is, lt-ltb 255 (high_in s (r / p)) h, or_true (ltb 16 p))
 

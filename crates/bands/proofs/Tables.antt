@@ -1,4 +1,5 @@
 -- A table's rows looked at one after the other, and what that says of the whole table. Assumes nothing.
+use Rattle.std.specs.Prelude.{Option, Some, None, Result, Ok, Err}
 use Prim.Native.Nat.{ℕ, zero, suc, ◌-◌, ◌/◌, ◌%◌, ◌≤◌, ◌<◌}
 use native.Mathlib.Omega.{arith}
 use mathlib.Core.Path.{◌≡◌, refl, sym, ap, subst, ◌∙◌}
@@ -11,25 +12,15 @@ use Rattle.fields.proofs.Laws.{and_l, and_r}
 use Rattle.words.specs.Words.{word_at}
 use Rattle.words.proofs.Turns.{rest}
 use Rattle.timing.specs.declared.Band.{Band}
-use Rattle.timing.specs.declared.Timed.{Timed}
-use Rattle.timing.specs.declared.Timed.TheVariants.{Refused}
 use Rattle.timing.specs.declared.TimingRefusal.TheVariants.{BadBands}
 use Rattle.bands.specs.Bands.{sound, all_sound, rising_above, rising, accepted, loaded_of, band_for, by_found, timing_by}
 use Rattle.bands.specs.Table.{band_in, bands_from, named, bands_in}
 use Rattle.bands.specs.Bounds.{Sound, SoundIn, row_stands, rows_stand}
 use Rattle.bands.proofs.Either.{either, by_bool}
-use Rattle.bands.specs.declared.Loaded.TheVariants.{Accepted, Refused as NotLoaded}
-use Rattle.bands.specs.declared.Found.{Found}
-use Rattle.bands.specs.declared.Found.TheVariants.{Row, Above}
+use Rattle.timing.specs.declared.I2cTiming.{I2cTiming}
+use Rattle.timing.specs.declared.TimingRefusal.{TimingRefusal}
 
 -- ---- one row
-module _ (bytes : List ℕ) (shape : ℕ) (is : shape ≡ word_at bytes 5) where
-  pub no_shape : 1 < shape → false ≡ row_stands bytes
-  no_shape h = rw (← is, lt-leb shape 1 h)
-
-  pub shape_then : (b : Band) (t : Bool) → shape ≤ 1 → b ≡ band_in bytes → t ≡ sound b → t ≡ row_stands bytes
-  shape_then b t h e f = f ∙ rw (e, ← is, le-leb shape 1 h)
-
 pub sound_row : (b : Band) → T (sound b) → Sound b
 sound_row b t =
     record {
@@ -70,12 +61,12 @@ module _ (all : Bool) (last : ℕ) (bytes : List ℕ) (left : rows_stand last (l
 pub ruleset rows = (rows_end, row_falls, row_low, row_next)
 
 -- The row of a frequency in the rows that are left is that of the table.
-module _ (frequency : ℕ) (all : Found) (bytes : List ℕ) (left : band_for frequency (bands_from (length bytes / 24) bytes) ≡ all) where
-  pub none_for : length bytes < 24 → Above ≡ all
+module _ (frequency : ℕ) (all : Option Band) (bytes : List ℕ) (left : band_for frequency (bands_from (length bytes / 24) bytes) ≡ all) where
+  pub none_for : length bytes < 24 → None ≡ all
   none_for h = (rw (none bytes h) at left)
 
   module _ (more : 24 ≤ length bytes) (b : Band) (is : b ≡ band_in bytes) where
-    pub found_here : frequency ≤ b.upper → Row b ≡ all
+    pub found_here : frequency ≤ b.upper → Some b ≡ all
     found_here h =
         let k : frequency ≤ word_at bytes 0 = rw is at h in
         rw is (sym (rw (one_more_holds bytes more, le-leb frequency (word_at bytes 0) k)) ∙ left)
@@ -157,6 +148,8 @@ module _ (bytes : List ℕ) where
       (λ e. let w : length bytes % 24 ≡ 0 = eqb-true _ _ e in sym (tested ∙ rw (lt-leb n 16 (omega arith), and_false (leb 1 n)) (and_false (eqb (length bytes % 24) 0 && named n bytes))))
       (λ e. not_whole (eqb-false _ _ e))
 
+pub ruleset tables = (too_short, too_long, not_whole, table_falls, table_stands)
+
 -- ---- a table that is accepted
 module _ (bytes : List ℕ) (good : accepted (bands_in bytes) ≡ true) where
   shown : (w : Bool) (bs : List Band) → accepted (cond w bs []) ≡ true → cond w bs [] ≡ bs
@@ -171,37 +164,37 @@ module _ (bytes : List ℕ) (good : accepted (bands_in bytes) ≡ true) where
 pub sound_found : (frequency : ℕ) (bs : List Band) → T (all_sound bs) → SoundIn (band_for frequency bs)
 sound_found frequency [] t = tt
 sound_found frequency (b ∷ bs) t =
-    either SoundIn (leb frequency b.upper) (Row b) (band_for frequency bs)
+    either SoundIn (leb frequency b.upper) (Some b) (band_for frequency bs)
     (λ _. sound_row b (and_l (sound b) (all_sound bs) t)) (λ _. sound_found frequency bs (and_r (sound b) (all_sound bs) t))
 
 pub all_sound_holds : (bs : List Band) → T (accepted bs) → T (all_sound bs)
 unfolding accepted
 all_sound_holds bs t = and_l (all_sound bs) (rising bs) (and_r (leb (length bs) 16) _ (and_r (leb 1 (length bs)) _ t))
 
--- ---- what is answered, t being whether the table is accepted
-module _ (bytes : List ℕ) (t : Bool) (is : t ≡ accepted (bands_in bytes)) where
-  pub loads : t ≡ true → Accepted ≡ loaded_of (bands_in bytes)
-  unfolding loaded_of
-  loads e = rw (← is, e)
+-- ---- what is answered, by whether the table is accepted
+module _ (bytes : List ℕ) (clock frequency : ℕ) where
+  abbrev bs : List Band
+  bs = bands_in bytes
 
-  pub not_loaded : t ≡ false → NotLoaded BadBands ≡ loaded_of (bands_in bytes)
-  unfolding loaded_of
-  not_loaded e = rw (← is, e)
+  pub bad_bands : (why : TimingRefusal) → Err why ≡ loaded_of bs → Err why ≡ timing_by bs clock frequency
+  unfolding loaded_of timing_by
+  bad_bands why e =
+      by_bool (accepted bs)
+      (λ t. (let f : Err why ≡ Ok tt = e ∙ rw t in absurd (cc)))
+      (λ t. rw t (let f : Err why ≡ Err BadBands = e ∙ rw t in let g : why ≡ BadBands = cc in ap (λ (r : TimingRefusal). Err r) g))
 
-  module _ (clock frequency : ℕ) where
-    pub bad_bands : t ≡ false → Refused BadBands ≡ timing_by (bands_in bytes) clock frequency
-    unfolding timing_by
-    bad_bands e = rw (← is, e)
+  module _ (is : Ok tt ≡ loaded_of bs) where
+    good : accepted bs ≡ true
+    unfolding loaded_of
+    good = by_bool (accepted bs) (λ t. t) (λ t. (let f : Ok tt ≡ Err BadBands = is ∙ rw t in cc))
 
-    module _ (good : t ≡ true) (found : Found) (here : found ≡ band_for frequency (bands_from (length bytes / 24) bytes)) where
-      same_found : found ≡ band_for frequency (bands_in bytes)
-      same_found = here ∙ rw (bands_are bytes (sym is ∙ good))
+    module _ (found : Option Band) (here : found ≡ band_for frequency (bands_from (length bytes / 24) bytes)) where
+      same_found : found ≡ band_for frequency bs
+      same_found = here ∙ rw (bands_are bytes good)
 
       pub found_sound : SoundIn found
-      found_sound = subst SoundIn (sym same_found) (sound_found frequency (bands_in bytes) (all_sound_holds (bands_in bytes) (subst T (sym good ∙ is) tt)))
+      found_sound = subst SoundIn (sym same_found) (sound_found frequency bs (all_sound_holds bs (subst T (sym good) tt)))
 
-      pub by_its_row : (answer : Timed) → answer ≡ by_found clock frequency found → answer ≡ timing_by (bands_in bytes) clock frequency
+      pub by_its_row : (answer : Result I2cTiming TimingRefusal) → answer ≡ by_found clock frequency found → answer ≡ timing_by bs clock frequency
       unfolding timing_by
-      by_its_row answer e = e ∙ rw (← is, good, ← same_found)
-
-pub ruleset answers = (loads, not_loaded, bad_bands, by_its_row)
+      by_its_row answer e = e ∙ rw (good, ← same_found)

@@ -1,18 +1,14 @@
 -- The timing by a board's own speed bands (document 02, R-4), kernel clock and bus frequency in hertz. A row has document 01's columns:
 -- upper frequency, least clock, d, the divisors of SDADEL and SCLDEL, and its shape. All divisions are whole. Document 01's own rule
 -- is `timing_of` of the crate `timing`; with `five_bands` the two are the same. Assumes nothing.
-use Rattle.std.specs.Prelude.{ℕ, ◌+◌, ◌-◌, ◌*◌, ◌/◌, min, Bool, true, cond, ◌&&◌, ◌||◌, List, [], ◌∷◌, ◌++◌, eqb, leb, ltb, length}
+use Rattle.std.specs.Prelude.{ℕ, ◌+◌, ◌-◌, ◌*◌, ◌/◌, min, Bool, true, cond, ◌&&◌, ◌||◌, List, [], ◌∷◌, ◌++◌, eqb, leb, ltb, length, Option, Some, None, Result, Ok, Err}
 use Rattle.timing.specs.Bands.{bands, above, divider_of, fields_of}
 use Rattle.timing.specs.declared.Band.{Band}
 use Rattle.timing.specs.declared.Shape.{Shape}
 use Rattle.timing.specs.declared.Shape.TheVariants.{Equal, Double}
-use Rattle.timing.specs.declared.Timed.{Timed}
-use Rattle.timing.specs.declared.Timed.TheVariants.{Timing, Refused}
 use Rattle.timing.specs.declared.TimingRefusal.TheVariants.{NoSpeed, ClockOver, Ratio, ClockSlow, SpeedLow, NoSetup, BadBands, NoBand}
-use Rattle.bands.specs.declared.Loaded.{Loaded}
-use Rattle.bands.specs.declared.Loaded.TheVariants.{Accepted, Refused as NotLoaded}
-use Rattle.bands.specs.declared.Found.{Found}
-use Rattle.bands.specs.declared.Found.TheVariants.{Row, Above}
+use Rattle.timing.specs.declared.I2cTiming.{I2cTiming}
+use Rattle.timing.specs.declared.TimingRefusal.{TimingRefusal}
 
 -- ---- Which tables are accepted: 1 to 16 rows, d from 8 to 256, no delay divisor 0, the upper frequencies strictly rising.
 
@@ -35,8 +31,8 @@ rising (b ∷ bs) = rising_above b.upper bs
 unfoldable pub accepted : List Band → Bool
 accepted bs = leb 1 (length bs) && (leb (length bs) 16 && (all_sound bs && rising bs))
 
-unfoldable pub loaded_of : List Band → Loaded
-loaded_of bs = cond (accepted bs) Accepted (NotLoaded BadBands)
+unfoldable pub loaded_of : List Band → Result (Unit {0}) TimingRefusal
+loaded_of bs = cond (accepted bs) (Ok tt) (Err BadBands)
 
 -- ---- The timing in a row, for a cycle of r clocks
 
@@ -55,48 +51,48 @@ low_in Equal c = (c - 2) / 2
 low_in Double c = 2 * (high_in Double c + 1) - 1
 
 -- Refused as 6 where no setup time is left.
-unfoldable pub settled : ℕ → Band → ℕ → ℕ → ℕ → Timed
+unfoldable pub settled : ℕ → Band → ℕ → ℕ → ℕ → Result I2cTiming TimingRefusal
 settled clock b p sclh scll =
-    cond (eqb (clock / b.scldel / p) 0) (Refused NoSetup)
-    (Timing (fields_of clock b p sclh scll))
+    cond (eqb (clock / b.scldel / p) 0) (Err NoSetup)
+    (Ok (fields_of clock b p sclh scll))
 
 -- Refused as 5 where p or a part of the cycle does not fit its field.
-unfoldable pub shaped_in : Shape → ℕ → ℕ → Band → Timed
+unfoldable pub shaped_in : Shape → ℕ → ℕ → Band → Result I2cTiming TimingRefusal
 shaped_in s clock r b =
     let p = held_in s (divider_of r b.d) in
     let high = high_in s (r / p) in
     let low = low_in s (r / p) in
-    cond (ltb 16 p || (ltb 255 high || ltb 255 low)) (Refused SpeedLow)
+    cond (ltb 16 p || (ltb 255 high || ltb 255 low)) (Err SpeedLow)
     (settled clock b p high low)
 
-unfoldable pub in_row : ℕ → ℕ → Band → Timed
-in_row clock r b = cond (ltb clock b.least) (Refused ClockSlow) (shaped_in b.shape clock r b)
+unfoldable pub in_row : ℕ → ℕ → Band → Result I2cTiming TimingRefusal
+in_row clock r b = cond (ltb clock b.least) (Err ClockSlow) (shaped_in b.shape clock r b)
 
 -- ---- The timing by a table
 
 -- the first row that the frequency does not exceed
-abbrev pub band_for : ℕ → List Band → Found
-band_for frequency [] = Above
-band_for frequency (b ∷ bs) = cond (leb frequency b.upper) (Row b) (band_for frequency bs)
+abbrev pub band_for : ℕ → List Band → Option Band
+band_for frequency [] = None
+band_for frequency (b ∷ bs) = cond (leb frequency b.upper) (Some b) (band_for frequency bs)
 
-abbrev pub by_row : ℕ → ℕ → Band → Timed
-by_row clock frequency b = cond (ltb (clock / frequency) 4) (Refused Ratio) (in_row clock (clock / frequency) b)
+abbrev pub by_row : ℕ → ℕ → Band → Result I2cTiming TimingRefusal
+by_row clock frequency b = cond (ltb (clock / frequency) 4) (Err Ratio) (in_row clock (clock / frequency) b)
 
 -- the row that was found, or 17
-abbrev pub in_found : ℕ → ℕ → Found → Timed
-in_found clock frequency (Row b) = by_row clock frequency b
-in_found clock frequency Above = Refused NoBand
+abbrev pub in_found : ℕ → ℕ → Option Band → Result I2cTiming TimingRefusal
+in_found clock frequency (Some b) = by_row clock frequency b
+in_found clock frequency None = Err NoBand
 
 -- 1 and 2 before 17, and the others after it
-unfoldable pub by_found : ℕ → ℕ → Found → Timed
+unfoldable pub by_found : ℕ → ℕ → Option Band → Result I2cTiming TimingRefusal
 by_found clock frequency found =
-    cond (eqb frequency 0) (Refused NoSpeed)
-    (cond (ltb 250000000 clock) (Refused ClockOver)
+    cond (eqb frequency 0) (Err NoSpeed)
+    (cond (ltb 250000000 clock) (Err ClockOver)
     (in_found clock frequency found))
 
 -- and 16 before all of them
-unfoldable pub timing_by : List Band → ℕ → ℕ → Timed
-timing_by bs clock frequency = cond (accepted bs) (by_found clock frequency (band_for frequency bs)) (Refused BadBands)
+unfoldable pub timing_by : List Band → ℕ → ℕ → Result I2cTiming TimingRefusal
+timing_by bs clock frequency = cond (accepted bs) (by_found clock frequency (band_for frequency bs)) (Err BadBands)
 
 -- Document 01's table, its last row ending at 4,294,967,295.
 abbrev pub five_bands : List Band

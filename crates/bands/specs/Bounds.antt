@@ -1,13 +1,11 @@
 -- What the private functions of the timing lean on: bounds of a row and of a prescaler, and rows looked at one after the other. No
 -- definition of what is right rests on this file. Assumes nothing.
-use Rattle.std.specs.Prelude.{ℕ, zero, suc, ◌*◌, ◌≤◌, min, ◌≡◌, Bool, true, ◌&&◌, List, leb, ltb, drop}
+use Rattle.std.specs.Prelude.{ℕ, zero, suc, ◌*◌, ◌≤◌, ◌≡◌, Bool, true, ◌&&◌, List, leb, ltb, drop, Option, Some, None}
 use Rattle.timing.specs.Bands.{divider_of}
 use Rattle.timing.specs.declared.Band.{Band}
 use Rattle.words.specs.Words.{word_at}
 use Rattle.bands.specs.Bands.{sound}
 use Rattle.bands.specs.Table.{band_in}
-use Rattle.bands.specs.declared.Found.{Found}
-use Rattle.bands.specs.declared.Found.TheVariants.{Row, Above}
 
 pub record Sound (b : Band) : Type 0 where
   pub d_least : 8 ≤ b.d
@@ -15,9 +13,9 @@ pub record Sound (b : Band) : Type 0 where
   pub sdadel_some : 1 ≤ b.sdadel
   pub scldel_some : 1 ≤ b.scldel
 
-abbrev pub SoundIn : Found → Type 0
-SoundIn (Row b) = Sound b
-SoundIn Above = Unit {0}
+abbrev pub SoundIn : Option Band → Type 0
+SoundIn (Some b) = Sound b
+SoundIn None = Unit {0}
 
 -- what a prescaler p leaves of a cycle of r clocks
 pub record Divider (r d p : ℕ) : Type 0 where
@@ -25,12 +23,6 @@ pub record Divider (r d p : ℕ) : Type 0 where
   pub some : 1 ≤ p
   pub few : 4 * p ≤ r
   pub enough : r ≤ 256 * p
-
-pub record Capped (r d p : ℕ) : Type 0 where
-  pub is : p ≡ min 16 (divider_of r d)
-  pub some : 1 ≤ p
-  pub most : p ≤ 16
-  pub few : 4 * p ≤ r
 
 -- the row that bytes begin with, and n rows after one with the upper frequency `last`
 abbrev pub row_stands : List ℕ → Bool

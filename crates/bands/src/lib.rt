@@ -5,24 +5,10 @@
 ghost use Rattle.std.specs.Prelude.{◌≡◌, ◌-◌, ◌/◌, ◌≤◌, length};
 ghost use Rattle.timing.specs.Bands.{row, band_of, held, fields_of, timing_of};
 ghost use Rattle.bands.specs.Bands.{sound, band_for, accepted, loaded_of, settled, shaped_in, in_row, by_row, by_found, timing_by};
-ghost use Rattle.bands.specs.Bounds.{Sound, SoundIn, Divider, Capped, row_stands, rows_stand};
+ghost use Rattle.bands.specs.Bounds.{Sound, SoundIn, Divider, row_stands, rows_stand};
 ghost use Rattle.bands.specs.Table.{shape_of, band_in, bands_from, bands_in};
 
-use timing::{Band, I2cTiming, Shape, Timed, TimingRefusal};
-
-// Whether a table was accepted.
-#[derive(Clone, Copy)]
-pub enum Loaded {
-    Accepted,
-    Refused(TimingRefusal),
-}
-
-// The row of a table that a frequency falls into.
-#[derive(Clone, Copy)]
-enum Found {
-    Row(Band),
-    Above,
-}
+use timing::{Band, I2cTiming, Shape, TimingRefusal};
 
 // The bytes of a row, and of the longest table.
 const ROW: usize = 24;
@@ -46,132 +32,116 @@ fn row_of(upper: u32, least: u32, d: u32, sdadel: u32, scldel: u32, shape: Shape
 fn data_delay(x: u32) -> u8
     ensures { result ≡ held 1 15 x }
 {
-    if x < 1 {
-        return 1;
-    }
-    if x > 15 {
-        return 15;
-    }
-    x as u8
+    x.clamp(1, 15) as u8
 }
 
 // x - 1 held to 4 .. 15.
 fn clock_delay(x: u32) -> u8
     ensures { result ≡ held 4 15 (x - 1) }
 {
-    if x < 5 {
-        return 4;
-    }
-    if x > 16 {
-        return 15;
-    }
-    (x - 1) as u8
+    x.saturating_sub(1).clamp(4, 15) as u8
 }
 
-fn fields_of(clock: u32, b: Band, p: u32, sclh: u8, scll: u8) -> I2cTiming
-    requires sound { Sound b }
-    requires le_p { (1 ≤ p) × (p ≤ 16) }
-    ensures { result ≡ fields_of clock b p sclh scll }
-{
-    I2cTiming {
-        presc: (p - 1) as u8,
-        scldel: clock_delay(clock / b.scldel / p),
-        sdadel: data_delay(clock / b.sdadel / p),
-        sclh,
-        scll,
+// A cycle of r clocks, to be timed by a row.
+#[derive(Clone, Copy)]
+struct Cycle {
+    clock: u32,
+    r: u32,
+    band: Band,
+    ghost sound: { Sound band },
+    ghost long: { 4 ≤ r },
+}
+
+impl Cycle {
+    fn fields(self, p: u32, sclh: u8, scll: u8) -> I2cTiming
+        requires { (1 ≤ p) × (p ≤ 16) }
+        ensures { result ≡ fields_of self.clock self.band p sclh scll }
+    {
+        I2cTiming {
+            presc: (p - 1) as u8,
+            scldel: clock_delay(self.clock / self.band.scldel / p),
+            sdadel: data_delay(self.clock / self.band.sdadel / p),
+            sclh,
+            scll,
+        }
     }
-}
 
-// A prescaler and both parts of a cycle are settled: what is left is the setup time.
-fn settle(clock: u32, b: Band, p: u32, sclh: u8, scll: u8) -> Timed
-    requires sound { Sound b }
-    requires le_p { (1 ≤ p) × (p ≤ 16) }
-    ensures { result ≡ settled clock b p sclh scll }
-{
-    let x = clock / b.scldel / p;
-    if x == 0 {
-        return Timed::Refused(TimingRefusal::NoSetup);
+    // A prescaler and both parts of a cycle are settled: what is left is the setup time.
+    #[tactic(auto, unfolding(crate::specs::Bands::settled))]
+    fn settle(self, p: u32, sclh: u8, scll: u8) -> Result<I2cTiming, TimingRefusal>
+        requires { (1 ≤ p) × (p ≤ 16) }
+        ensures { result ≡ settled self.clock self.band p sclh scll }
+    {
+        let x = self.clock / self.band.scldel / p;
+        if x == 0 {
+            return Err(TimingRefusal::NoSetup);
+        }
+        Ok(self.fields(p, sclh, scll))
     }
-    Timed::Timing(fields_of(clock, b, p, sclh, scll))
-}
 
-// How often d goes into a cycle of r clocks, rounded up.
-fn divider(r: u32, d: u32) -> u32
-    requires le_r { 4 ≤ r }
-    requires le_d { (8 ≤ d) × (d ≤ 256) }
-    ensures { Divider r d result }
-{
-    (r - 1) / d + 1
-}
-
-// The same, at most 16.
-fn capped(r: u32, d: u32) -> u32
-    requires le_r { 4 ≤ r }
-    requires le_d { (8 ≤ d) × (d ≤ 256) }
-    ensures { Capped r d result }
-{
-    let p = divider(r, d);
-    if p < 16 { p } else { 16 }
-}
-
-// A prescaler is held to 16, so that a half may be too long for its field.
-fn equal(clock: u32, r: u32, b: Band) -> Timed
-    requires sound { Sound b }
-    requires le_r { 4 ≤ r }
-    ensures { result ≡ shaped_in Shape.Equal clock r b }
-{
-    let p = capped(r, b.d);
-    let half = (r / p - 2) / 2;
-    if half > 255 {
-        return Timed::Refused(TimingRefusal::SpeedLow);
+    // How often d goes into the cycle, rounded up.
+    fn divider(self) -> u32
+        ensures { Divider self.r self.band.d result }
+    {
+        // By hand: `div_ceil` takes the remainder too, which costs the chip instructions.
+        (self.r - 1) / self.band.d + 1
     }
-    settle(clock, b, p, half as u8, half as u8)
-}
 
-// The prescaler is not held, so a cycle has at most d steps and both parts fit.
-fn double(clock: u32, r: u32, b: Band) -> Timed
-    requires sound { Sound b }
-    requires le_r { 4 ≤ r }
-    ensures { result ≡ shaped_in Shape.Double clock r b }
-{
-    let p = divider(r, b.d);
-    if p > 16 {
-        return Timed::Refused(TimingRefusal::SpeedLow);
+    // A prescaler is held to 16, so that a half may be too long for its field.
+    fn equal(self) -> Result<I2cTiming, TimingRefusal>
+        ensures { result ≡ shaped_in Shape.Equal self.clock self.r self.band }
+    {
+        let p = self.divider().min(16);
+        let half = (self.r / p - 2) / 2;
+        if half > 255 {
+            return Err(TimingRefusal::SpeedLow);
+        }
+        self.settle(p, half as u8, half as u8)
     }
-    let high = (r / p - 3) / 3;
-    let low = 2 * (high + 1) - 1;
-    settle(clock, b, p, high as u8, low as u8)
-}
 
-fn in_row(clock: u32, r: u32, b: Band) -> Timed
-    requires sound { Sound b }
-    requires le_r { 4 ≤ r }
-    ensures { result ≡ in_row clock r b }
-{
-    if clock < b.least {
-        return Timed::Refused(TimingRefusal::ClockSlow);
+    // The prescaler is not held, so a cycle has at most d steps and both parts fit.
+    fn double(self) -> Result<I2cTiming, TimingRefusal>
+        ensures { result ≡ shaped_in Shape.Double self.clock self.r self.band }
+    {
+        let p = self.divider();
+        if p > 16 {
+            return Err(TimingRefusal::SpeedLow);
+        }
+        let high = (self.r / p - 3) / 3;
+        let low = 2 * (high + 1) - 1;
+        self.settle(p, high as u8, low as u8)
     }
-    let shape = b.shape;
-    match shape {
-        Shape::Equal => equal(clock, r, b),
-        Shape::Double => double(clock, r, b),
+
+    #[tactic(auto, unfolding(crate::specs::Bands::in_row))]
+    fn timing(self) -> Result<I2cTiming, TimingRefusal>
+        ensures { result ≡ in_row self.clock self.r self.band }
+    {
+        if self.clock < self.band.least {
+            return Err(TimingRefusal::ClockSlow);
+        }
+        match self.band.shape {
+            Shape::Equal => self.equal(),
+            Shape::Double => self.double(),
+        }
     }
 }
 
 // The timing in a row, from the ratio on.
-fn by_row(clock: u32, frequency: u32, b: Band) -> Timed
+fn by_row(clock: u32, frequency: u32, b: Band) -> Result<I2cTiming, TimingRefusal>
     requires sound { Sound b }
     requires le_frequency { 1 ≤ frequency }
     ensures { result ≡ by_row clock frequency b }
 {
     let r = clock / frequency;
     if r < 4 {
-        return Timed::Refused(TimingRefusal::Ratio);
+        return Err(TimingRefusal::Ratio);
     }
-    in_row(clock, r, b)
+    Cycle { clock, r, band: b }.timing()
 }
 
 // Document 01's row of a frequency.
+// By hand: tried as a `find` over constant rows, and what it returns was not proved.
+#[tactic(auto, unfolding(timing::specs::Bands::band_of))]
 fn band_of(frequency: u32) -> Band
     ensures { result ≡ band_of frequency }
 {
@@ -198,29 +168,28 @@ fn band_of(frequency: u32) -> Band
 }
 
 // What is refused before any row, then the row that was found.
-fn by_found(clock: u32, frequency: u32, found: Found) -> Timed
+#[tactic(auto, unfolding(crate::specs::Bands::by_found))]
+fn by_found(clock: u32, frequency: u32, found: Option<Band>) -> Result<I2cTiming, TimingRefusal>
     requires { SoundIn found }
     ensures { result ≡ by_found clock frequency found }
 {
     if frequency == 0 {
-        return Timed::Refused(TimingRefusal::NoSpeed);
+        return Err(TimingRefusal::NoSpeed);
     }
     if clock > 250_000_000 {
-        return Timed::Refused(TimingRefusal::ClockOver);
+        return Err(TimingRefusal::ClockOver);
     }
-    match found {
-        Found::Row(b) => by_row(clock, frequency, b),
-        Found::Above => Timed::Refused(TimingRefusal::NoBand),
-    }
+    by_row(clock, frequency, found.ok_or(TimingRefusal::NoBand)?)
 }
 
 // The timing of a bus at `frequency` from a kernel clock of `clock`, both in hertz, by document 01's bands.
-pub fn calc_timing_params(clock: u32, frequency: u32) -> Timed
+pub fn calc_timing_params(clock: u32, frequency: u32) -> Result<I2cTiming, TimingRefusal>
     ensures { result ≡ timing_of clock frequency }
 {
-    by_found(clock, frequency, Found::Row(band_of(frequency)))
+    by_found(clock, frequency, Some(band_of(frequency)))
 }
 
+// By hand: a table has its shape as a word.
 fn shape_of(n: u32) -> Shape
     ensures { result ≡ shape_of n }
 {
@@ -244,104 +213,81 @@ fn first(rows: &[u8]) -> Band
 fn is_sound(b: Band) -> bool
     ensures { result ≡ sound b }
 {
-    if b.d < 8 {
-        return false;
-    }
-    if b.d > 256 {
-        return false;
-    }
-    if b.sdadel < 1 {
-        return false;
-    }
-    if b.scldel < 1 {
-        return false;
-    }
-    true
+    (8..=256).contains(&b.d) && b.sdadel >= 1 && b.scldel >= 1
 }
 
 // Whether the row that bytes begin with names a shape and is sound.
 fn stands(rows: &[u8]) -> bool
     ensures { result ≡ row_stands rows.now }
 {
-    let shape = words::get(rows, 5);
-    if shape > 1 {
-        return false;
-    }
-    is_sound(first(rows))
+    words::get(rows, 5) <= 1 && is_sound(first(rows))
 }
 
 // Whether rows may follow one with the upper frequency `last`.
-fn stand_above(last: u32, rows: &[u8]) -> bool
+#[tactic(auto, using(crate::proofs::Tables::rows))]
+fn stand_above(mut last: u32, rows: &[u8]) -> bool
     ensures { result ≡ rows_stand last (length rows.now / 24) rows.now }
 {
-    let mut last = last;
+    // By hand: `chunks_exact` takes the remainder of the length first, a division that the chip does without.
     let mut rest = rows;
-    while ROW <= rest.len() {
-        if !stands(rest) {
-            return false;
-        }
+    while let Some(after) = rest.get(ROW..) {
         let upper = words::get(rest, 0);
-        if upper <= last {
+        if !stands(rest) || upper <= last {
             return false;
         }
         last = upper;
-        rest = &rest[ROW..];
+        rest = after;
     }
     true
 }
 
 // The first row has none before it.
+#[tactic(auto, using(crate::proofs::Tables::tables))]
 fn is_accepted(table: &[u8]) -> bool
     ensures { result ≡ accepted (bands_in table.now) }
 {
     let n = table.len();
-    if n < ROW {
-        return false;
-    }
-    if n > TABLE {
-        return false;
-    }
-    if n % ROW != 0 {
-        return false;
-    }
-    if !stands(table) {
+    if n < ROW || n > TABLE || n % ROW != 0 || !stands(table) {
         return false;
     }
     stand_above(words::get(table, 0), &table[ROW..])
 }
 
 // The first row that the frequency does not exceed.
-fn find(frequency: u32, table: &[u8]) -> Found
+#[tactic(auto, using(crate::proofs::Tables::finds))]
+fn find(frequency: u32, table: &[u8]) -> Option<Band>
     ensures { result ≡ band_for frequency (bands_from (length table.now / 24) table.now) }
 {
+    // By hand: `chunks_exact` takes the remainder of the length first, a division that the chip does without.
     let mut rest = table;
-    while ROW <= rest.len() {
+    while let Some(after) = rest.get(ROW..) {
         let b = first(rest);
         if frequency <= b.upper {
-            return Found::Row(b);
+            return Some(b);
         }
-        rest = &rest[ROW..];
+        rest = after;
     }
-    Found::Above
+    None
 }
 
 // Looks at a table of speed bands: bytes, 24 to a row, which are six little-endian words. They are the row's upper frequency, least clock,
 // d, the divisors of SDADEL and SCLDEL, and 0 for an equal or 1 for a double row.
-pub fn load(table: &[u8]) -> Loaded
+#[tactic(auto, unfolding(crate::specs::Bands::loaded_of))]
+pub fn load(table: &[u8]) -> Result<(), TimingRefusal>
     ensures { result ≡ loaded_of (bands_in table.now) }
 {
     if is_accepted(table) {
-        return Loaded::Accepted;
+        Ok(())
+    } else {
+        Err(TimingRefusal::BadBands)
     }
-    Loaded::Refused(TimingRefusal::BadBands)
 }
 
 // The timing of a bus at `frequency` from a kernel clock of `clock`, both in hertz, by a table. The table is looked at whole, every time.
-pub fn timing_by(table: &[u8], clock: u32, frequency: u32) -> Timed
+#[tactic(auto, using(crate::proofs::Tables::bad_bands))]
+pub fn timing_by(table: &[u8], clock: u32, frequency: u32) -> Result<I2cTiming, TimingRefusal>
     ensures { result ≡ timing_by (bands_in table.now) clock frequency }
 {
-    if !is_accepted(table) {
-        return Timed::Refused(TimingRefusal::BadBands);
-    }
+    load(table)?;
     by_found(clock, frequency, find(frequency, table))
 }

@@ -1,5 +1,6 @@
 -- What `text` gives a caller, once more, fact by fact: how many bytes it fills and with which, which it leaves, and that the runs shown are
 -- whole. A contract that loses a fact, and its proof with it, fails here. Assumes nothing.
+use Rattle.std.specs.Prelude.{Result, Ok, Err}
 use Prim.Native.Nat.{ℕ, zero, suc, ◌+◌, ◌-◌, ◌*◌, ◌≤◌, ◌<◌, min}
 use native.Mathlib.Omega.{arith}
 use mathlib.Core.Path.{◌≡◌, sym, ap, ◌∙◌, subst}
@@ -25,8 +26,6 @@ use Rattle.calls.specs.declared.Call.{Call}
 use Rattle.calls.specs.declared.Description.{Description}
 use Rattle.calls.specs.declared.Refusal.{Refusal}
 use Rattle.calls.specs.declared.Report.TheVariants.{Refused}
-use Rattle.calls.specs.declared.Verdict.{Verdict}
-use Rattle.calls.specs.declared.Verdict.TheVariants.{Accepted, Refused as Rejected}
 use Rattle.drive.specs.Drive.{run_for}
 use Rattle.lines.specs.declared.Form.{Form}
 use Rattle.window.specs.Window.{Shown, window_of}
@@ -152,19 +151,19 @@ module _ (κs : Lfts 2) (a : borrow.Fn.World.ArgsD text.signature κs) (n : borr
     is_whole = whole_at (get_or (words_in file) 0 0) k words (drop (4 * get_or (words_in file) 0 0) words) some (contract.1 right)
 
     -- an accepted call: any number of accesses more, and the uncut run stays what is shown; it has ended, or waits for an answer
-    pub run_whole : (c : Call) → check_of d ops (length b) ≡ Accepted c → (m : ℕ) → length R.entries ≤ m →
+    pub run_whole : (c : Call) → check_of d ops (length b) ≡ Ok c → (m : ℕ) → length R.entries ≤ m →
         let q : Request = request_of c d ops (length b) in
         uncut_of q m (begin_of q) b l ≡ record { saved = R.saved; buffer = R.buffer; log = R.entries }
-    run_whole c e m h = (subst (λ (v : Verdict). WholeCall v d ops b l R) e is_whole).run m h
+    run_whole c e m h = (subst (λ (v : Result Call Refusal). WholeCall v d ops b l R) e is_whole).run m h
 
-    pub run_over : (c : Call) → check_of d ops (length b) ≡ Accepted c →
+    pub run_over : (c : Call) → check_of d ops (length b) ≡ Ok c →
         let q : Request = request_of c d ops (length b) in
         R.report ≡ stop_at R.saved.outcome (next_of (access_of q R.buffer R.saved))
-    run_over c e = (subst (λ (v : Verdict). WholeCall v d ops b l R) e is_whole).report
+    run_over c e = (subst (λ (v : Result Call Refusal). WholeCall v d ops b l R) e is_whole).report
 
-    pub run_answers : (c : Call) → check_of d ops (length b) ≡ Accepted c → answers_in R.entries ≡ take R.used l
-    run_answers c e = (subst (λ (v : Verdict). WholeCall v d ops b l R) e is_whole).answers
+    pub run_answers : (c : Call) → check_of d ops (length b) ≡ Ok c → answers_in R.entries ≡ take R.used l
+    run_answers c e = (subst (λ (v : Result Call Refusal). WholeCall v d ops b l R) e is_whole).answers
 
     -- a refused one
-    pub run_refused : (r : Refusal) → check_of d ops (length b) ≡ Rejected r → R ≡ stops (Refused r) no_call b
-    run_refused r e = subst (λ (v : Verdict). WholeCall v d ops b l R) e is_whole
+    pub run_refused : (r : Refusal) → check_of d ops (length b) ≡ Err r → R ≡ stops (Refused r) no_call b
+    run_refused r e = subst (λ (v : Result Call Refusal). WholeCall v d ops b l R) e is_whole

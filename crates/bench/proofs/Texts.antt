@@ -1,9 +1,9 @@
 -- The texts of a call's parts, of calls in turn, and of a file's words. Assumes nothing.
-use Prim.Native.Nat.{ℕ, suc, ◌-◌, ◌≤◌, ◌<◌}
+use Prim.Native.Nat.{ℕ, suc, ◌+◌, ◌-◌, ◌≤◌, ◌<◌}
 use native.Mathlib.Omega.{arith}
 use mathlib.Core.Path.{◌≡◌, sym, ap, ◌∙◌}
 use mathlib.Core.Bool.{Bool, true, false, cond, not, ◌&&◌}
-use mathlib.Core.List.{List, [], ◌++◌}
+use mathlib.Core.List.{List, []}
 use lib.ListN.{length, get_or, take, drop}
 use Rattle.benchfile.specs.Calls.{plain, head_description, operations_of, lent_buffer}
 use Rattle.benchfile.specs.File.{body_size}
@@ -21,12 +21,16 @@ use Rattle.window.specs.Window.{Laid, emit_of, as_shown, window_of}
 use Rattle.bench.specs.Text.{shows_buffer, buffer_text, run_text, told_by, call_text, run_in, row_text, calls_text}
 use Rattle.bench.specs.declared.call.Told.{Told}
 
--- a text where a test holds, and none where it does not
-pub left_out : (t r : Bool) (x : List ℕ) (L : Laid) → r ≡ t → r ≡ false → L ≡ emit_of (cond t x []) L
-left_out t r x L e h = rw (sym e ∙ h) (sym (emit_none L))
+-- ---- a buffer, which stands in the text where the call has one to show and was not refused
+module _ (n : ℕ) (r : Report) (s f : Bool) (x : List ℕ) (L M : Laid) (is : s ≡ shows_buffer n) where
+  pub buffer_shown : s ≡ true → f ≡ is_refusal r → f ≡ false → M ≡ emit_of x L → M ≡ emit_of (cond (shows_buffer n && not (is_refusal r)) x []) L
+  buffer_shown h e g m = rw (sym is ∙ h, sym e ∙ g) m
 
-pub where_shown : (n : ℕ) (r : Report) (s f : Bool) → s ≡ shows_buffer n → f ≡ is_refusal r → (s && not f) ≡ (shows_buffer n && not (is_refusal r))
-where_shown n r s f e g = rw (e, g)
+  pub refused_shows_none : s ≡ true → f ≡ is_refusal r → f ≡ true → L ≡ emit_of (cond (shows_buffer n && not (is_refusal r)) x []) L
+  refused_shows_none h e g = rw (sym is ∙ h, sym e ∙ g) (sym (emit_none L))
+
+  pub other_shows_none : s ≡ false → L ≡ emit_of (cond (shows_buffer n && not (is_refusal r)) x []) L
+  other_shows_none h = rw (sym is ∙ h) (sym (emit_none L))
 
 -- one of two texts
 pub either : (t r : Bool) (x y : List ℕ) (L M : Laid) → r ≡ t → r ≡ true → M ≡ emit_of x L → M ≡ emit_of (cond t x y) L
@@ -69,15 +73,17 @@ pub rowed : (form : Form) (rows bodies head rest l : List ℕ) (n a h k : ℕ) (
     M ≡ emit_of (row_text form rows bodies) K
 rowed form rows bodies head rest l n a h k K M e₀ e₁ e₂ e₃ e₄ e₅ e₆ m = rw (e₆, e₅, e₄, e₃, e₂, e₁, e₀) at m
 
--- ---- n calls, of which k are left, the rows and bodies of those at hand
-module _ (form : Form) (n : ℕ) (rows bodies : List ℕ) (K : Laid) (k : ℕ) (table rest : List ℕ) (L : Laid)
-    (done : emit_of (calls_text form k table rest) L ≡ emit_of (calls_text form n rows bodies) K) where
-  pub calls_put : k ≤ 0 → L ≡ emit_of (calls_text form n rows bodies) K
+-- ---- n calls, of which i are put, the rows and bodies of the others at hand
+module _ (form : Form) (n i : ℕ) (rows bodies : List ℕ) (K : Laid) (table rest : List ℕ) (L : Laid)
+    (done : emit_of (calls_text form (n - i) table rest) L ≡ emit_of (calls_text form n rows bodies) K) where
+  pub calls_put : n ≤ i → L ≡ emit_of (calls_text form n rows bodies) K
   unfolding calls_text
-  calls_put h = (let e : k ≡ 0 = omega arith in rw (e, emit_none) at done)
+  calls_put h = (let e : n - i ≡ 0 = omega arith in rw (e, emit_none) at done)
 
-  pub next_call : 0 < k → (M : Laid) →
-      M ≡ emit_of (row_text form table rest) L →
-      emit_of (calls_text form (k - 1) (drop 4 table) (drop (body_size table) rest)) M ≡ emit_of (calls_text form n rows bodies) K
+  pub next_call : i < n → (M : Laid) (size : ℕ) (t b : List ℕ) →
+      M ≡ emit_of (row_text form table rest) L → size ≡ body_size table → t ≡ drop 4 table → b ≡ drop size rest →
+      emit_of (calls_text form (n - (i + 1)) t b) M ≡ emit_of (calls_text form n rows bodies) K
   unfolding calls_text
-  next_call h M m = rw m (let e : k ≡ suc (k - 1) = omega arith in rw (e, emit_append) at done)
+  next_call h M size t b m f g e = rw (m, g, e, f) (let k : n - i ≡ suc (n - (i + 1)) = omega arith in rw (k, emit_append) at done)
+
+pub ruleset calls = (calls_put, next_call)

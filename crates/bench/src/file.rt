@@ -1,5 +1,5 @@
 // The text of a file: of its calls in turn, or that it is none.
-ghost use Rattle.std.specs.Prelude.{◌≡◌, length};
+ghost use Rattle.std.specs.Prelude.{◌≡◌};
 ghost use Rattle.window.specs.Window.{laid, emit_of};
 ghost use Rattle.bench.specs.Text.{row_text, calls_text, table_text, words_text, file_text};
 
@@ -12,6 +12,7 @@ use window::Cursor;
 const WORDS: usize = 16384;
 
 // The call of a table's first row, its body first in `bodies`.
+// By hand: place, form and window go side by side, as in `window::Cursor`.
 fn put_row(p: Cursor, form: Form, rows: &[u32], bodies: &[u32], out: &mut [u8]) -> Cursor
     ensures { laid result out.new ≡ emit_of (row_text form rows.now bodies.now) (laid p out.old) }
 {
@@ -30,20 +31,18 @@ fn put_row(p: Cursor, form: Form, rows: &[u32], bodies: &[u32], out: &mut [u8]) 
     )
 }
 
+// By hand: a table that is cut short is read on as zeros, which chunks of it would leave out.
+#[tactic(auto, using(crate::proofs::Texts::calls))]
 fn put_calls(p: Cursor, form: Form, n: u32, rows: &[u32], bodies: &[u32], out: &mut [u8]) -> Cursor
     ensures { laid result out.new ≡ emit_of (calls_text form n rows.now bodies.now) (laid p out.old) }
 {
     let mut q = p;
-    let mut left = n;
     let mut table = rows;
     let mut rest = bodies;
-    while 0 < left {
+    for _ in 0..n {
         q = put_row(q, form, table, rest, out);
-        let others = after(rest, body_size(table));
-        rest = others;
-        let more = after(table, 4);
-        table = more;
-        left -= 1;
+        rest = after(rest, body_size(table));
+        table = after(table, 4);
     }
     q
 }
@@ -63,19 +62,14 @@ fn put_words(p: Cursor, form: Form, words: &[u32], out: &mut [u8]) -> Cursor
     put_table(p, form, word(words, 0), after(words, 1), out)
 }
 
-fn room() -> [u32; WORDS]
-    ensures { length result ≡ 16384 }
-{
-    [0; WORDS]
-}
-
+// By hand: fixed memory.
 pub fn put_file(p: Cursor, form: Form, file: &[u8], out: &mut [u8]) -> Cursor
     ensures { laid result out.new ≡ emit_of (file_text form file.now) (laid p out.old) }
 {
     if benchfile::is_size_wrong(file.len()) {
         return lines::put_refusal(p, out);
     }
-    let mut words = room();
+    let mut words = [0; WORDS];
     let n = words::decode(file, &mut words);
     put_words(p, form, &words[..n], out)
 }

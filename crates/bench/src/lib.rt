@@ -17,6 +17,5 @@ pub fn text(file: &[u8], form: Form, from: usize, out: &mut [u8]) -> usize
     ensures out_after { as_shown result out.new ≡ window_of from (file_text form file.now) out.old }
     ensures every_whole { EveryWhole file.now }
 {
-    let p = file::put_file(Cursor::new(from), form, file, out);
-    p.at
+    file::put_file(Cursor::new(from), form, file, out).at
 }

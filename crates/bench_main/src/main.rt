@@ -2,11 +2,8 @@
 // the accesses of each call stand as a service page.
 #![tactic(auto)]
 
-ghost use Rattle.std.specs.Prelude.{◌≡◌, length};
-
-use input::BUFFER;
 use lines::Form;
-use std::io::{Print, Read};
+use std::io::Print;
 use std::rt::HostRuntime;
 
 // A byte more than a bench file may have, by which a longer one is found out.
@@ -15,91 +12,31 @@ const FILE: usize = 65_537;
 // What is printed at a time. The text is laid out anew for each window, so they are large and few.
 const WINDOW: usize = 1_048_576;
 
-fn room() -> [u8; FILE]
-    ensures { 65537 ≡ length result }
-{
-    [0; FILE]
-}
-
-fn write(rt: &HostRuntime, out: &[u8], n: usize) -> bool {
-    if n <= out.len() {
-        rt.write_all(&out[0..n]).is_ok()
-    } else {
-        false
-    }
-}
-
-// The window goes by its array type to these two, so that nothing has to be shown of its length.
-fn lay(file: &[u8], form: Form, from: usize, out: &mut [u8; WINDOW]) -> usize {
-    bench::text(file, form, from, out)
-}
-
-fn write_window(rt: &HostRuntime, out: &[u8; WINDOW], n: usize) -> bool {
-    write(rt, out, n)
+// By hand: the array goes by its type, as the check does not show at a call how long it is.
+fn window<'a>(file: &[u8], form: Form, from: usize, out: &'a mut [u8; WINDOW]) -> &'a [u8] {
+    let n = bench::text(file, form, from, out);
+    &out[..n.min(WINDOW)]
 }
 
 // The windows of a text in turn, until one has room to spare or cannot be written. The loop is bounded, as a loop has to be:
 // no text has that many.
+// By hand: fixed memory, and a window is found by its number.
 fn print(rt: &HostRuntime, file: &[u8], form: Form) {
     let mut out = [0u8; WINDOW];
-    let mut from = 0;
-    let mut turns = u32::MAX;
-    while turns > 0 {
-        let n = lay(file, form, from, &mut out);
-        if !write_window(rt, &out, n) {
+    for turn in 0..u32::MAX {
+        let text = window(file, form, turn as usize * WINDOW, &mut out);
+        if rt.write_all(text).is_err() || text.len() < WINDOW {
             return;
         }
-        if n < WINDOW {
-            return;
-        }
-        from = std::num::wrapping_add_usize(from, n);
-        turns -= 1;
     }
-}
-
-fn print_input<R: Read>(rt: &HostRuntime, form: Form, reader: &mut R, name: &[u8]) {
-    let mut file = room();
-    let got = input::read(rt, reader, name, &mut file);
-    let n = got.n;
-    if got.whole {
-        print(rt, &file[..n], form);
-    }
-}
-
-fn print_file(rt: &HostRuntime, form: Form, path: &[u8]) {
-    match input::open(rt, path) {
-        Ok(mut file) => print_input(rt, form, &mut file, path),
-        Err(error) => input::fail(rt, path, error),
-    }
-}
-
-fn print_argument(rt: &HostRuntime, form: Form, i: usize) {
-    let mut path = [0u8; BUFFER];
-    let n = input::arg(rt, i, &mut path);
-    print_file(rt, form, &path[..n]);
-}
-
-// The arguments from `first` on.
-fn print_all(rt: &HostRuntime, form: Form, first: usize) {
-    let count = input::arg_count(rt);
-    if count <= first {
-        print_input(rt, form, &mut rt.stdin(), b"standard input");
-    }
-    for i in first..count {
-        print_argument(rt, form, i);
-    }
-}
-
-fn is_page_asked(rt: &HostRuntime) -> bool {
-    let mut option = [0u8; BUFFER];
-    let n = input::arg(rt, 1, &mut option);
-    check::same(&option[..n], b"--page")
 }
 
 fn main(rt: HostRuntime) {
-    if is_page_asked(&rt) {
-        print_all(&rt, Form::Page, 2);
+    let option = input::arg(&rt, 1).unwrap_or_default();
+    let (form, first) = if option.as_slice() == b"--page".as_slice() {
+        (Form::Page, 2)
     } else {
-        print_all(&rt, Form::Lines, 1);
-    }
+        (Form::Lines, 1)
+    };
+    input::each::<FILE, _>(&rt, first, |_, file| print(&rt, file, form));
 }

@@ -5,75 +5,53 @@
 
 mod back;
 mod names;
-mod show;
 mod text;
-mod turn;
 
-use input::BUFFER;
+use back::to_text;
 use std::rt::HostRuntime;
-use turn::Way;
+use text::{TEXT, to_words};
 
+// Room for a text and a byte more, by which one that is too long is found out.
+const ROOM: usize = TEXT + 1;
+
+// By hand: each program has its own words and options.
 fn usage(rt: &HostRuntime) {
-    show::complain(rt, b"usage: bench_words [--back] [FILE]\n");
-}
-
-fn is_option(argument: &[u8]) -> bool {
-    if argument.len() < 2 {
-        return false;
-    }
-    argument[0] == b'-' && argument[1] == b'-'
+    input::complain(rt, b"usage: bench_words [--back] [FILE]\n");
 }
 
 fn is_back(argument: &[u8]) -> bool {
-    if argument.len() != 6 {
-        return false;
-    }
-    is_option(argument)
-        && argument[2] == b'b'
-        && argument[3] == b'a'
-        && argument[4] == b'c'
-        && argument[5] == b'k'
+    argument == b"--back".as_slice()
 }
 
-fn turn_input(rt: &HostRuntime, way: Way) {
-    turn::turn(rt, way, &mut rt.stdin(), b"standard input");
-}
-
-fn turn_file(rt: &HostRuntime, way: Way, path: &[u8]) {
-    match input::open(rt, path) {
-        Ok(mut file) => turn::turn(rt, way, &mut file, path),
-        Err(error) => input::fail(rt, path, error),
+// By hand: fixed memory here and in `turn_file`; the two differ in what is read, and `input` has a function for each.
+fn turn_input<F: FnOnce(&HostRuntime, &[u8], &[u8])>(rt: &HostRuntime, turn: F)
+    requires { F.IsAlwaysCallable turn }
+{
+    let mut room = [0u8; ROOM];
+    if let Some(input) = input::read_stdin(rt, &mut room) {
+        turn(rt, b"standard input", input);
     }
 }
 
-fn turn_one(rt: &HostRuntime, argument: &[u8]) {
-    if is_back(argument) {
-        turn_input(rt, Way::ToText);
-    } else if is_option(argument) {
-        usage(rt);
-    } else {
-        turn_file(rt, Way::ToWords, argument);
-    }
-}
-
-fn turn_two(rt: &HostRuntime, option: &[u8], path: &[u8]) {
-    if is_back(option) {
-        turn_file(rt, Way::ToText, path);
-    } else {
-        usage(rt);
+fn turn_file<F: FnOnce(&HostRuntime, &[u8], &[u8])>(rt: &HostRuntime, path: &[u8], turn: F)
+    requires { F.IsAlwaysCallable turn }
+{
+    let mut room = [0u8; ROOM];
+    if let Some(input) = input::read_file(rt, path, &mut room) {
+        turn(rt, path, input);
     }
 }
 
 // An argument that is longer than a path may be counts as empty.
 fn main(rt: HostRuntime) {
-    let mut first = [0u8; BUFFER];
-    let mut second = [0u8; BUFFER];
-    let n = input::arg(&rt, 1, &mut first);
-    let m = input::arg(&rt, 2, &mut second);
+    let first = input::arg(&rt, 1).unwrap_or_default();
+    let second = input::arg(&rt, 2).unwrap_or_default();
+    let first = first.as_slice();
     match input::arg_count(&rt) {
-        1 => turn_input(&rt, Way::ToWords),
-        2 => turn_one(&rt, &first[..n]),
-        3 => turn_two(&rt, &first[..n], &second[..m]),
+        1 => turn_input(&rt, to_words),
+        2 if is_back(first) => turn_input(&rt, to_text),
+        2 if !first.starts_with(b"--") => turn_file(&rt, first, to_words),
+        3 if is_back(first) => turn_file(&rt, second.as_slice(), to_text),
         _ => usage(&rt),
     }
 }

@@ -35,7 +35,7 @@ module _ (ws : List ℕ) (L : Laid) (i : ℕ) (M : Laid) (done : emit_of (low_by
   unfolding emit_of
   next_byte h N f = rw (f, add-one) (rw (drop-cons ws i 0 h) at done)
 
-pub ruleset words-put = (all_bytes, next_byte)
+pub ruleset words_put = (all_bytes, next_byte)
 
 -- ---- one operation
 module _ (o : ℕ) (ws : List ℕ) (L M : Laid) (r : Bool) (size : ℕ)
@@ -47,7 +47,7 @@ module _ (o : ℕ) (ws : List ℕ) (L M : Laid) (r : Bool) (size : ℕ)
       M ≡ emit_of (operation_bytes o (low_bytes ws)) L
   write_put h part f e = rw (← is, h, ← long, bytes_take, ← f) e
 
-pub ruleset operation-put = (read_put, write_put)
+pub ruleset operation_put = (read_put, write_put)
 
 -- ---- operations of which those before i are put, and `left` is what they left of the words
 module _ (ops ws : List ℕ) (L : Laid) (i : ℕ) (left : List ℕ) (M : Laid)
@@ -62,6 +62,8 @@ module _ (ops ws : List ℕ) (L : Laid) (i : ℕ) (left : List ℕ) (M : Laid)
       emit_of (operations_bytes (drop (i + 1) ops) (low_bytes others)) N ≡ emit_of (operations_bytes ops (low_bytes ws)) L
   next_operation some N size others f e g =
       rw (f, g, e, add-one, ← bytes_drop, ← emit_append) (rw (drop-cons ops i 0 some) at done)
+
+pub ruleset operations_put = (all_operations, next_operation)
 
 -- ---- the whole buffer, by the call
 module _ (n a : ℕ) (head : List ℕ) (L M : Laid) where
@@ -86,4 +88,4 @@ module _ (n a : ℕ) (head : List ℕ) (L M : Laid) where
     unfolding whole_buffer emit_of
     none_whole h l e = rw (ne_eqb n 7 other, h, l) e
 
-pub ruleset whole-put = (list_whole, zeros_whole, bytes_whole, none_whole)
+pub ruleset whole_put = (list_whole, zeros_whole, bytes_whole, none_whole)

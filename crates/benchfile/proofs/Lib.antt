@@ -1,5 +1,4 @@
 pub mod Parts
-pub mod Branch
 pub mod Lists
 pub mod Rows
 pub mod Bytes

@@ -1,12 +1,11 @@
 -- A call of a bench file: its number, its argument and its head words, and what they describe (document 01, "Bench").
 -- Assumes nothing.
-use Rattle.std.specs.Prelude.{ℕ, ◌+◌, ◌-◌, ◌%◌, Bool, cond, not, ◌&&◌, ◌||◌, List, [], ◌∷◌, ◌++◌, map, eqb, leb, ltb, length, get_or, take, drop, replicate}
+use Rattle.std.specs.Prelude.{ℕ, ◌+◌, ◌-◌, ◌%◌, Bool, cond, not, ◌&&◌, ◌||◌, List, [], ◌∷◌, ◌++◌, map, eqb, leb, ltb, length, get_or, take, drop, replicate, Option, Some, None}
 use Rattle.calls.specs.Pieces.{piece_of}
 use Rattle.calls.specs.Refusals.{any_of}
-use Rattle.calls.specs.declared.Configuration.{Configuration}
-use Rattle.calls.specs.declared.Configuration.TheVariants.{Unconfigured, Configured}
 use Rattle.calls.specs.declared.Description.{Description}
 use Rattle.address_words.specs.Words.{mode_of, config_in}
+use Rattle.calls.specs.declared.TargetConfig.{TargetConfig}
 
 -- 24 to 29 are read like 8 to 13
 unfoldable pub plain : ℕ → ℕ
@@ -62,9 +61,9 @@ call_wrong n a head = argument_wrong (plain n) a || head_wrong (plain n) head
 
 -- ---- The description. A call looks only at the words that belong to it. Own address, mode, secondary address and mask stand
 -- after the TIMINGR word, which 3 does not have; where no four words do, there is no configuration.
-abbrev pub configuration_in : List ℕ → Configuration
+abbrev pub configuration_in : List ℕ → Option TargetConfig
 configuration_in ws =
-    cond (eqb (length ws) 4) (Configured (config_in (get_or ws 0 0) (get_or ws 1 0) (get_or ws 2 0) (get_or ws 3 0))) Unconfigured
+    cond (eqb (length ws) 4) (Some (config_in (get_or ws 0 0) (get_or ws 1 0) (get_or ws 2 0) (get_or ws 3 0))) None
 
 abbrev pub config_from : ℕ → ℕ
 config_from n = cond (eqb n 3) 0 1

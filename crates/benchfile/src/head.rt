@@ -6,11 +6,13 @@ ghost use Rattle.benchfile.specs.Calls.{transaction_wrong, config_wrong, head_wr
 ghost use Rattle.benchfile.specs.Calls.{configuration_in, config_from, head_description, list_in, operations_of};
 
 use crate::part::{after, first, word};
-use calls::{Configuration, Description};
+use calls::{Description, TargetConfig};
 use kinds::operation;
 use timing::RawTimingr;
 
 // The number by which a call is read: 24 to 29 are read like 8 to 13.
+// By hand: a file may have any number, and one that names no call is begun and refused like the others.
+#[tactic(auto, unfolding(crate::specs::Calls::plain), using(fields::proofs::Tests::tests))]
 pub fn plain(n: u32) -> u32
     ensures { result ≡ Calls·plain n }
 {
@@ -20,30 +22,27 @@ pub fn plain(n: u32) -> u32
     }
 }
 
+#[tactic(auto, unfolding(crate::specs::Calls::has_argument), using(fields::proofs::Tests::tests))]
 fn has_argument(n: u32) -> bool
     ensures { result ≡ has_argument n }
 {
-    (n == 4) | ((n == 5) | ((n == 9) | (n == 11)))
+    matches!(n, 4 | 5 | 9 | 11)
 }
 
+#[tactic(auto, unfolding(crate::specs::Calls::argument_wrong), using(fields::proofs::Tests::tests))]
 fn is_argument_wrong(n: u32, a: u32) -> bool
     ensures { result ≡ argument_wrong n a }
 {
     if n == 7 {
         return a > 131_071;
     }
-    !has_argument(n) & (a != 0)
+    !has_argument(n) && a != 0
 }
 
 fn has_wide(words: &[u32]) -> bool
     ensures { result ≡ any_wide words.now }
 {
-    for i in 0..words.len() {
-        if words[i] > 255 {
-            return true;
-        }
-    }
-    false
+    words.iter().any(|&w| w > 255)
 }
 
 pub fn write_size(o: u32) -> usize
@@ -57,83 +56,84 @@ pub fn write_size(o: u32) -> usize
 }
 
 // Whether the writes of a list have just n bytes: counted down, so that no sum needs a bound.
+#[tactic(auto, using(crate::proofs::Lists::takes))]
 fn has_write_bytes(ops: &[u32], n: usize) -> bool
     ensures { result ≡ eqb n (write_bytes ops.now) }
 {
     let mut left = n;
-    for i in 0..ops.len() {
-        let size = write_size(ops[i]);
-        if left < size {
+    for &o in ops {
+        let Some(rest) = left.checked_sub(write_size(o)) else {
             return false;
-        }
-        left -= size;
+        };
+        left = rest;
     }
     left == 0
 }
 
 // The words after the count k.
+#[tactic(auto, unfolding(crate::specs::Calls::list_misfit), using(fields::proofs::Tests::tests))]
 fn is_list_wrong(k: usize, words: &[u32]) -> bool
     ensures { result ≡ list_misfit k words.now }
 {
     let bytes = after(words, k);
-    (words.len() < k) | (!has_write_bytes(first(words, k), bytes.len()) | has_wide(bytes))
+    words.len() < k || !has_write_bytes(first(words, k), bytes.len()) || has_wide(bytes)
 }
 
+#[tactic(auto, unfolding(crate::specs::Calls::transaction_wrong), using(fields::proofs::Tests::tests))]
 fn is_transaction_wrong(head: &[u32]) -> bool
     ensures { result ≡ transaction_wrong head.now }
 {
-    (head.len() == 0) | is_list_wrong(word(head, 0) as usize, after(head, 1))
+    head.is_empty() || is_list_wrong(word(head, 0) as usize, after(head, 1))
 }
 
+#[tactic(auto, unfolding(crate::specs::Calls::config_wrong), using(fields::proofs::Tests::tests))]
 fn is_config_wrong(size: usize, i: usize, head: &[u32]) -> bool
     ensures { result ≡ config_wrong size i head.now }
 {
-    (head.len() != size) | (word(head, i) > 1)
+    head.len() != size || word(head, i) > 1
 }
 
+#[tactic(auto, unfolding(crate::specs::Calls::head_wrong), using(fields::proofs::Tests::tests))]
 fn is_head_wrong(n: u32, head: &[u32]) -> bool
     ensures { result ≡ head_wrong n head.now }
 {
     match n {
         7 => is_transaction_wrong(head),
-        10 => has_wide(head),
-        12 => has_wide(head),
-        1 => (head.len() != 1) & is_config_wrong(5, 2, head),
+        10 | 12 => has_wide(head),
+        1 => head.len() != 1 && is_config_wrong(5, 2, head),
         2 => is_config_wrong(5, 2, head),
         3 => is_config_wrong(4, 1, head),
-        _ => head.len() != 0,
+        _ => !head.is_empty(),
     }
 }
 
+// By hand: number, argument and head stay apart, since a call is described by its own number and laid out by the one that it is read like.
+#[tactic(auto, unfolding(crate::specs::Calls::call_wrong))]
 pub fn is_call_wrong(n: u32, a: u32, head: &[u32]) -> bool
     ensures { result ≡ call_wrong n a head.now }
 {
     let like = plain(n);
-    is_argument_wrong(like, a) | is_head_wrong(like, head)
+    is_argument_wrong(like, a) || is_head_wrong(like, head)
 }
 
 // Own address, mode, secondary address and mask.
-fn config(words: &[u32]) -> Configuration
+fn config(words: &[u32]) -> Option<TargetConfig>
     ensures { result ≡ configuration_in words.now }
 {
-    if words.len() == 4 {
-        let config = address_words::config(
-            word(words, 0),
-            word(words, 1),
-            word(words, 2),
-            word(words, 3),
-        );
-        return Configuration::Configured(config);
-    }
-    Configuration::Unconfigured
+    let &[own, mode, secondary, mask] = words else {
+        return None;
+    };
+    Some(address_words::config(own, mode, secondary, mask))
 }
 
+#[tactic(auto, using(fields::proofs::Tests::tests))]
 fn config_from(n: u32) -> usize
     ensures { result ≡ config_from n }
 {
     if n == 3 { 0 } else { 1 }
 }
 
+#[tactic(auto, unfolding(crate::specs::Calls::head_description))]
 pub fn describe(n: u32, a: u32, head: &[u32]) -> Description
     ensures { result ≡ head_description n a head.now }
 {
@@ -154,8 +154,9 @@ pub fn list(head: &[u32]) -> &[u32]
     first(after(head, 1), word(head, 0) as usize)
 }
 
+#[tactic(auto, unfolding(crate::specs::Calls::operations_of), using(fields::proofs::Tests::tests))]
 pub fn operations(n: u32, head: &[u32]) -> &[u32]
     ensures { result.now ≡ operations_of n head.now }
 {
-    if n == 7 { list(head) } else { first(head, 0) }
+    if n == 7 { list(head) } else { &[] }
 }

@@ -1,4 +1,4 @@
--- What begin and the next access give, from the contracts of what they call. Assumes nothing.
+-- What an advance gives, from the contracts of what it calls. Assumes nothing.
 use Prim.Native.Nat.{ℕ, ◌*◌, ◌/◌}
 use native.Mathlib.Omega.{arith}
 use mathlib.Core.Path.{◌≡◌, ap, ◌∙◌}
@@ -11,16 +11,15 @@ use Rattle.calls.proofs.Joined.{within}
 use Rattle.calls.specs.Advances.{is_refusal}
 use Rattle.calls.specs.Joined.{Reached, as_reached, reached_by}
 use Rattle.calls.specs.Outcomes.{report_number}
-use Rattle.calls.specs.Run.{Run, words_of, begun_of, run_of}
+use Rattle.calls.specs.Run.{Run, words_of, run_of}
 use Rattle.calls.specs.declared.Advanced.{Advanced}
-use Rattle.calls.specs.declared.Begun.{Begun}
 use Rattle.calls.specs.declared.Description.{Description}
 use Rattle.calls.specs.declared.Report.{Report}
 use Rattle.calls.specs.declared.SavedCall.{SavedCall}
 use Rattle.saved.specs.Saved.{saved_in, written_to}
 use Rattle.words.proofs.Turns.{decoded_words}
 use Rattle.words.specs.Words.{words_in, as_decoded, decoded_of, put_words}
-use Rattle.boundary.specs.Calls.{verdict_number, operations_in, as_begin_left, begin_left_in, log_after, numbers_of, answer_for, as_advance_left, advance_left_in}
+use Rattle.boundary.specs.Calls.{operations_in, log_after, numbers_of, answer_for, as_advance_left, advance_left_in}
 use Rattle.advance_bytes.specs.Pieces.{in_bytes}
 
 -- the list that 65 words have room for
@@ -28,11 +27,6 @@ module _ (bytes words : List ℕ) (n : ℕ) (words' : List ℕ) (long : length w
     (decoded : as_decoded n words' ≡ decoded_of 0 bytes words) where
   pub listed : take n words' ≡ operations_in bytes
   listed = decoded_words 0 bytes words n words' decoded ∙ rw long
-
-pub begins : (d : Description) (ops : List ℕ) (size : ℕ) (saved : List ℕ) (B : Begun) (n : ℕ) (saved' : List ℕ) →
-    B ≡ begun_of d ops size → n ≡ verdict_number B.verdict (length saved) → saved' ≡ written_to saved B.saved →
-    as_begin_left n saved' ≡ begin_left_in d ops size saved
-begins d ops size saved B n saved' e f g = rw (f, g, e)
 
 -- ---- what an advance gives, where it came to C
 module _ (d : Description) (ops saved b answers log : List ℕ) (t : Advanced) (b' log' : List ℕ)

@@ -1,5 +1,6 @@
 -- Demand 3 holds across the C boundary: of every call of `huskerivory_begin` and every list of calls of `huskerivory_advance`
 -- that came back, by their contracts. `boundary_demand_3` is the theorem. Assumes nothing.
+use Rattle.std.specs.Prelude.{Result, Ok, Err}
 use Prim.Native.Nat.{ℕ, ◌*◌, ◌/◌, ◌<◌}
 use native.Mathlib.Omega.{arith}
 use mathlib.Core.Path.{◌≡◌, refl, sym, ap, ◌∙◌, subst}
@@ -33,8 +34,6 @@ use Rattle.calls.specs.declared.Refusal.TheVariants.{Address, List as BadList, B
 use Rattle.calls.specs.declared.Report.{Report}
 use Rattle.calls.specs.declared.Report.TheVariants.{Over, Full, Waiting, Refused}
 use Rattle.calls.specs.declared.SavedCall.{SavedCall}
-use Rattle.calls.specs.declared.Verdict.{Verdict}
-use Rattle.calls.specs.declared.Verdict.TheVariants.{Accepted, Refused as Rejected}
 use Rattle.driver.proofs.CameBack.{CameBack}
 use Rattle.saved.proofs.Round.{read_written}
 use Rattle.saved.proofs.Words.{accepted_small, begin_words, run_in_range}
@@ -255,7 +254,7 @@ no_call_holds bytes =
     (no_place bytes no_call)
 
 -- ---- after an accepted begin
-module _ (c : Call) (a o : List ℕ) (n : ℕ) (ok : check_of (description_of a) (operations_in o) n ≡ Accepted c) where
+module _ (c : Call) (a o : List ℕ) (n : ℕ) (ok : check_of (description_of a) (operations_in o) n ≡ Ok c) where
   abbrev q : Request
   q = request_of c (description_of a) (operations_in o) n
 
@@ -301,18 +300,18 @@ none_goes_on C r e =
     T_not (says_refused C) r h
 
 -- ---- what the contract says of a begin
-begun_saved : (d : Description) (ops : List ℕ) (n : ℕ) (c : Call) → check_of d ops n ≡ Accepted c → (begun_of d ops n).saved ≡ begin_of (request_of c d ops n)
+begun_saved : (d : Description) (ops : List ℕ) (n : ℕ) (c : Call) → check_of d ops n ≡ Ok c → (begun_of d ops n).saved ≡ begin_of (request_of c d ops n)
 unfolding begun_of
 begun_saved d ops n c e = rw e
 
-pub record BeginSaid (B : BoundaryBegin) (v : Verdict) : Type 0 where
+pub record BeginSaid (B : BoundaryBegin) (v : Result Call Refusal) : Type 0 where
   pub refusal : B.refusal ≡ verdict_number v (length B.saved)
   pub saved : B.saved_left ≡ written_to B.saved (begun_by v (description_of B.description) (operations_in B.operations) (length B.buffer)).saved
 
-pub begin_said : (B : BoundaryBegin) (v : Verdict) → check_of (description_of B.description) (operations_in B.operations) (length B.buffer) ≡ v → BeginSaid B v
+pub begin_said : (B : BoundaryBegin) (v : Result Call Refusal) → check_of (description_of B.description) (operations_in B.operations) (length B.buffer) ≡ v → BeginSaid B v
 unfolding begun_of
-begin_said B (Rejected r) e = record { refusal = ap (λ (x : BeginLeft). x.refusal) B.contract ∙ rw e; saved = ap (λ (x : BeginLeft). x.saved) B.contract ∙ rw e }
-begin_said B (Accepted c) e = record { refusal = ap (λ (x : BeginLeft). x.refusal) B.contract ∙ rw e; saved = ap (λ (x : BeginLeft). x.saved) B.contract ∙ rw e }
+begin_said B (Err r) e = record { refusal = ap (λ (x : BeginLeft). x.refusal) B.contract ∙ rw e; saved = ap (λ (x : BeginLeft). x.saved) B.contract ∙ rw e }
+begin_said B (Ok c) e = record { refusal = ap (λ (x : BeginLeft). x.refusal) B.contract ∙ rw e; saved = ap (λ (x : BeginLeft). x.saved) B.contract ∙ rw e }
 
 -- ---- the theorem
 pub positive : (r : Refusal) → 0 < refusal_number r
@@ -345,7 +344,7 @@ module _ (B : BoundaryBegin) (Cs : List BoundaryAdvance) (after : BytesAfter B C
         exactly = F.exactly;
       }
 
-  begun : (c : Call) → check_of d ops size ≡ Accepted c → B.refusal ≡ 0 →
+  begun : (c : Call) → check_of d ops size ≡ Ok c → B.refusal ≡ 0 →
       B.saved_left ≡ saved_bytes (begin_of (request_of c d ops size)) → BoundaryDemand3 B Cs
   begun c e z t =
       let q : Request = request_of c d ops size in
@@ -354,19 +353,19 @@ module _ (B : BoundaryBegin) (Cs : List BoundaryAdvance) (after : BytesAfter B C
       (goes_on c B.description B.operations size e) Cs B.saved_left B.buffer
       (good c B.description B.operations size e (begin_of q) B.saved_left B.buffer t (accepted_begin q) w refl) after in
       let u : saved_in B.saved_left ≡ (begun_of d ops size).saved = ap saved_in t ∙ read_written (begin_of q) w ∙ sym (begun_saved d ops size c e) in
-      let D : Demand3 (Accepted c) d ops B.buffer As = rw e at (demand_3 d ops B.buffer As (rw u at F.follows)) in
+      let D : Demand3 (Ok c) d ops B.buffer As = rw e at (demand_3 d ops B.buffer As (rw u at F.follows)) in
       record {
         accepted = λ _. record { call = c; named = accepted_number c d ops size e; begun = t; kept = D };
         refused = λ h. absurd (T_not (eqb B.refusal 0) h (rw z tt));
         exactly = F.exactly;
       }
 
-  by_verdict : (v : Verdict) → check_of d ops size ≡ v → BoundaryDemand3 B Cs
-  by_verdict (Rejected r) e =
-      let s = begin_said B (Rejected r) e in
+  by_verdict : (v : Result Call Refusal) → check_of d ops size ≡ v → BoundaryDemand3 B Cs
+  by_verdict (Err r) e =
+      let s = begin_said B (Err r) e in
       not_begun (rw s.refusal (positive r)) (rw s.saved (no_call_holds B.saved))
-  by_verdict (Accepted c) e =
-      let s = begin_said B (Accepted c) e in
+  by_verdict (Ok c) e =
+      let s = begin_said B (Ok c) e in
       let t : SavedCall = begin_of (request_of c d ops size) in
       both (eqb (length B.saved) saved_length)
       (λ h. begun c e (s.refusal ∙ rw (is_true (eqb (length B.saved) saved_length) h)) (s.saved ∙ written_here B.saved t (eqb→eq _ _ h)))

@@ -1,5 +1,6 @@
 -- What the contracts of the ten exported functions say, again and in other words. Nothing rests on this file: it is proved so
 -- that a contract that loses a part is noticed. Assumes nothing.
+use Rattle.std.specs.Prelude.{Result, Ok, Err, Option, Some, None}
 use Prim.Native.Nat.{ℕ, ◌/◌, ◌%◌, ◌^◌, ◌*◌, ◌≤◌, ◌<◌}
 use mathlib.Core.Path.{◌≡◌, refl, sym, ap, ◌∙◌}
 use mathlib.Core.Bool.{Bool, true, false, not, ◌&&◌, ◌||◌}
@@ -26,16 +27,12 @@ use Rattle.calls.specs.declared.Report.{Report}
 use Rattle.calls.specs.declared.Report.TheVariants.{Over, Full, Waiting, Refused}
 use Rattle.calls.specs.declared.SavedCall.{SavedCall}
 use Rattle.calls.specs.declared.Step.{Step}
-use Rattle.calls.specs.declared.Verdict.{Verdict}
-use Rattle.calls.specs.declared.Verdict.TheVariants.{Accepted, Refused as Rejected}
 use Rattle.driver.proofs.CameBack.{CameBack}
 use Rattle.driver.specs.Next.{next_for}
 use Rattle.fields.specs.Field.{place, get_of, put_of, with_bits}
 use Rattle.page.proofs.Promised.{page_promises}
 use Rattle.page.specs.Page.{lines_of, text_of, page_of, fault_from, fault_of, page_in}
 use Rattle.page.specs.Promises.{EachKnown}
-use Rattle.page.specs.declared.Page.{Page}
-use Rattle.page.specs.declared.Page.TheVariants.{Laid, Refused as NotLaid}
 use Rattle.registers.specs.Map.{offset_of}
 use Rattle.registers.specs.declared.Register.{Register}
 use Rattle.saved.specs.Saved.{saved_length, saved_bytes, saved_in, written_to}
@@ -50,14 +47,12 @@ use Rattle.timing.specs.Refusals.{timing_refusal_number as timingNumber}
 use Rattle.timing.specs.Timingr.{timingr_word, pack_of, unpack_of}
 use Rattle.timing.specs.declared.I2cTiming.{I2cTiming}
 use Rattle.timing.specs.declared.TimingRefusal as timing-refusal
-use Rattle.timing.specs.declared.Timed.TheVariants.{Timing, Refused as NotTimed}
 use Rattle.words.specs.Words.{Below, words_in, bytes_of}
 use Rattle.boundary.specs.Abi.{AbiLeft}
 use Rattle.boundary.specs.Calls.{description_of, operations_in, access_answer, numbers_of, answer_for}
 use Rattle.boundary.specs.Demand.{BoundaryBegin, BoundaryAdvance, says_refused, answer_of, request_in}
 use Rattle.boundary.specs.Page.{PageLeft, as_page_left, page_left}
-use Rattle.boundary.specs.Timing.{packed_answer, timed_answer, timing_in, fields_of}
-use Rattle.boundary.specs.declared.TimingAnswer.{TimingAnswer}
+use Rattle.boundary.specs.Timing.{TimingAnswer, packed_answer, timed_answer, timing_in, fields_of}
 use Rattle.boundary.specs.declared.call.AccessAnswer.{AccessAnswer}
 use Rattle.boundary.proofs.Demand.{run_in, said, stopped, saved_length_holds, written_here, begin_said, positive, BeginCall, beginning, AdvanceCall, advancing}
 use Rattle.boundary.specs.contracts.huskerivory_abi as abi
@@ -146,11 +141,11 @@ abbrev timed : TimingCall → TimingAnswer
 timed C = (let (_, (_, (timingr, _))) = C.left in record { refusal = C.gave; timingr = timingr.now })
 
 timing_word : (C : TimingCall) (t : I2cTiming) → let (clock, (frequency, _)) = C.given in
-    timing_of clock frequency ≡ Timing t → timed C ≡ record { refusal = 0; timingr = timingr_word t }
+    timing_of clock frequency ≡ Ok t → timed C ≡ record { refusal = 0; timingr = timingr_word t }
 timing_word C t e = C.contract ∙ ap timed_answer e
 
 timing_refused : (C : TimingCall) (why : timing-refusal.TimingRefusal) → let (clock, (frequency, _)) = C.given in
-    timing_of clock frequency ≡ NotTimed why → timed C ≡ record { refusal = timingNumber why; timingr = 0 }
+    timing_of clock frequency ≡ Err why → timed C ≡ record { refusal = timingNumber why; timingr = 0 }
 timing_refused C why e = C.contract ∙ ap timed_answer e
 
 timing_400_k_hz : (C : TimingCall) → let (clock, (frequency, _)) = C.given in
@@ -185,11 +180,11 @@ module _ (C : BandsCall) where
   timed_by = (let (_, (_, (_, (timingr, _)))) = C.left in record { refusal = C.gave; timingr = timingr.now })
 
   bands_word : (t : I2cTiming) → let (_, (clock, (frequency, _))) = C.given in
-      timing_by lent_bands clock frequency ≡ Timing t → timed_by ≡ record { refusal = 0; timingr = timingr_word t }
+      timing_by lent_bands clock frequency ≡ Ok t → timed_by ≡ record { refusal = 0; timingr = timingr_word t }
   bands_word t e = C.contract ∙ ap timed_answer e
 
   bands_refused : (why : timing-refusal.TimingRefusal) → let (_, (clock, (frequency, _))) = C.given in
-      timing_by lent_bands clock frequency ≡ NotTimed why → timed_by ≡ record { refusal = timingNumber why; timingr = 0 }
+      timing_by lent_bands clock frequency ≡ Err why → timed_by ≡ record { refusal = timingNumber why; timingr = 0 }
   bands_refused why e = C.contract ∙ ap timed_answer e
 
   -- with document 01's five bands, what `huskerivory_timing` gives
@@ -259,19 +254,19 @@ module _ (B : BeginCall) where
   abbrev begin : BoundaryBegin
   begin = beginning B
 
-  abbrev verdict : Verdict
+  abbrev verdict : Result Call Refusal
   verdict = check_of (description_of begin.description) (operations_in begin.operations) (length begin.buffer)
 
-  begin_accepted : (c : Call) → verdict ≡ Accepted c → length begin.saved ≡ saved_length →
+  begin_accepted : (c : Call) → verdict ≡ Ok c → length begin.saved ≡ saved_length →
       (begin.refusal ≡ 0) × (begin.saved_left ≡ saved_bytes (begin_of (request_in begin c)))
   begin_accepted c e l =
-      let s = begin_said begin (Accepted c) e in
+      let s = begin_said begin (Ok c) e in
       (s.refusal ∙ rw (eq-eqb (length begin.saved) saved_length l), s.saved ∙ written_here begin.saved (begin_of (request_in begin c)) l)
 
-  begin_refused : (r : Refusal) → verdict ≡ Rejected r → length begin.saved ≡ saved_length →
+  begin_refused : (r : Refusal) → verdict ≡ Err r → length begin.saved ≡ saved_length →
       (begin.refusal ≡ refusal_number r) × (begin.saved_left ≡ saved_bytes no_call)
   begin_refused r e l =
-      let s = begin_said begin (Rejected r) e in
+      let s = begin_said begin (Err r) e in
       (s.refusal, s.saved ∙ written_here begin.saved no_call l)
 
   begin_elsewhere : T (not (eqb (length begin.saved) saved_length)) → (begin.saved_left ≡ begin.saved) × (0 < begin.refusal)
@@ -281,9 +276,9 @@ module _ (B : BeginCall) where
       f : eqb (length begin.saved) saved_length ≡ false
       f = is_false (eqb (length begin.saved) saved_length) h
 
-      go : (v : Verdict) → verdict ≡ v → (begin.saved_left ≡ begin.saved) × (0 < begin.refusal)
-      go (Accepted c) e = (let s = begin_said begin (Accepted c) e in (s.saved ∙ rw f, rw (s.refusal, f) (lit< tt)))
-      go (Rejected r) e = (let s = begin_said begin (Rejected r) e in (s.saved ∙ rw f, rw s.refusal (positive r)))
+      go : (v : Result Call Refusal) → verdict ≡ v → (begin.saved_left ≡ begin.saved) × (0 < begin.refusal)
+      go (Ok c) e = (let s = begin_said begin (Ok c) e in (s.saved ∙ rw f, rw (s.refusal, f) (lit< tt)))
+      go (Err r) e = (let s = begin_said begin (Err r) e in (s.saved ∙ rw f, rw s.refusal (positive r)))
 
 -- ---- one advance, whatever it was lent: it stays within its slices; a refused one uses nothing, writes nothing and leaves each
 -- byte; a waiting one names the register that the next access reads, and no other names one
@@ -386,9 +381,9 @@ module _ (C : PageCall) where
   page_refused : (length log % 8 ≡ 0 → EachKnown (words_in log) → length page_text ≤ length lent → ⊥) → page_left_holds ≡ as_page_left 15 0 lent
   page_refused n = C.contract ∙ go (page_in log lent).page refl
     where
-      go : (p : Page) → (page_in log lent).page ≡ p → page_left (page_in log lent) ≡ as_page_left 15 0 lent
-      go (Laid k) e = absurd (let (h, l, m) = page_promises.only_then log lent k e in n h l m)
-      go NotLaid e = rw (e, page_promises.unchanged log lent e)
+      go : (p : Option ℕ) → (page_in log lent).page ≡ p → page_left (page_in log lent) ≡ as_page_left 15 0 lent
+      go (Some k) e = absurd (let (h, l, m) = page_promises.only_then log lent k e in n h l m)
+      go None e = rw (e, page_promises.unchanged log lent e)
 
   page_of_nothing : log ≡ [] → page_left_holds ≡ as_page_left 0 0 lent
   page_of_nothing e = C.contract ∙ ap (λ (l : List ℕ). page_left (page_in l lent)) e ∙ no_entries lent

@@ -1,5 +1,5 @@
 -- What the C boundary gives for a call: the core's begin, advance and next access over what the bytes mean. Assumes nothing.
-use Rattle.std.specs.Prelude.{ℕ, ◌*◌, ◌/◌, Bool, cond, not, ◌||◌, List, [], ◌∷◌, ◌++◌, eqb, length, get_or, take, drop}
+use Rattle.std.specs.Prelude.{ℕ, ◌*◌, ◌/◌, Bool, cond, not, ◌||◌, List, [], ◌∷◌, ◌++◌, eqb, length, get_or, take, drop, Option, Some, None, Result, Ok, Err}
 use Rattle.registers.specs.Map.{offset_of}
 use Rattle.words.specs.Words.{words_in, bytes_of}
 use Rattle.address_words.specs.Words.{mode_of, config_in}
@@ -10,19 +10,29 @@ use Rattle.calls.specs.Outcomes.{refusal_number, report_number, report_value, aw
 use Rattle.calls.specs.Run.{Entry, words_of, Run, begun_of, run_of}
 use Rattle.calls.specs.declared.Begun.{Begun}
 use Rattle.calls.specs.declared.Call.TheVariants.{New, TargetNew, ConfigureTargetAddresses}
-use Rattle.calls.specs.declared.Configuration.{Configuration}
-use Rattle.calls.specs.declared.Configuration.TheVariants.{Unconfigured, Configured}
 use Rattle.calls.specs.declared.Description.{Description}
 use Rattle.calls.specs.declared.Next.{Next}
 use Rattle.calls.specs.declared.Next.TheVariants.{Over, Read, Write, Refused}
 use Rattle.calls.specs.declared.Report.{Report}
-use Rattle.calls.specs.declared.Verdict.{Verdict}
-use Rattle.calls.specs.declared.Verdict.TheVariants.{Accepted, Refused as Rejected}
 use Rattle.driver.specs.Next.{next_for}
 use Rattle.boundary.specs.declared.call.AccessAnswer.{AccessAnswer}
-use Rattle.boundary.specs.declared.call.CallDescription.{CallDescription}
+use Rattle.calls.specs.declared.Call.{Call}
+use Rattle.calls.specs.declared.Refusal.{Refusal}
+use Rattle.calls.specs.declared.TargetConfig.{TargetConfig}
 
 -- ---- What is asked: the words of a description. Those after the last named one are not looked at.
+pub record CallDescription : Type 0 where
+  pub call : ℕ
+  pub address : ℕ
+  pub ten : ℕ
+  pub listen : ℕ
+  pub timingr : ℕ
+  pub configured : ℕ
+  pub own : ℕ
+  pub own_ten : ℕ
+  pub secondary : ℕ
+  pub mask : ℕ
+
 abbrev pub told : List ℕ → CallDescription
 told words =
     record {
@@ -47,9 +57,9 @@ abbrev pub has_configuration : ℕ → ℕ → Bool
 has_configuration n configured =
     cond (eqb n (call_number New)) (yes configured) (eqb n (call_number TargetNew) || eqb n (call_number ConfigureTargetAddresses))
 
-abbrev pub configuration_of : CallDescription → Configuration
+abbrev pub configuration_of : CallDescription → Option TargetConfig
 configuration_of a =
-    cond (has_configuration a.call a.configured) (Configured (config_in a.own a.own_ten a.secondary a.mask)) Unconfigured
+    cond (has_configuration a.call a.configured) (Some (config_in a.own a.own_ten a.secondary a.mask)) None
 
 abbrev pub described_by : CallDescription → Description
 described_by a =
@@ -71,9 +81,9 @@ operations_in bytes = take 65 (words_in bytes)
 
 -- ---- Begin: 0 or the number of the refusal, and the saved call as bytes. A place for it of another length is refused
 -- as 13, after what is wrong with the description, and left as it is.
-abbrev pub verdict_number : Verdict → ℕ → ℕ
-verdict_number (Rejected r) n = refusal_number r
-verdict_number (Accepted c) n = cond (eqb n saved_length) 0 13
+abbrev pub verdict_number : Result Call Refusal → ℕ → ℕ
+verdict_number (Err r) n = refusal_number r
+verdict_number (Ok c) n = cond (eqb n saved_length) 0 13
 
 pub record BeginLeft : Type 0 where
   pub refusal : ℕ

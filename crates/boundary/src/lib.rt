@@ -5,7 +5,6 @@
 
 ghost use Rattle.std.specs.Prelude.{◌≡◌, length};
 ghost use Rattle.timing.specs.Bands.{timing_of};
-ghost use Rattle.timing.specs.Refusals.{timing_refusal_number};
 ghost use Rattle.timing.specs.Timingr.{pack_of, unpack_of};
 ghost use Rattle.words.specs.Words.{Below};
 ghost use Rattle.bands.specs.Bands.{loaded_of, timing_by};
@@ -15,8 +14,7 @@ ghost use Rattle.boundary.specs.Calls.{description_of, operations_in, as_begin_l
 ghost use Rattle.boundary.specs.Page.{as_page_left, page_left_in};
 ghost use Rattle.boundary.specs.Timing.{answer, packed_answer, packed_timed, timed_answer, loaded_answer, timing_in, fields_of};
 
-use bands::Loaded;
-use timing::{I2cTiming, Packed, RawTimingr, Timed, TimingRefusal};
+use timing::{I2cTiming, RawTimingr, TimingRefusal};
 
 mod call;
 
@@ -30,68 +28,35 @@ pub extern "C" fn huskerivory_abi(sizes: &mut [u32; 8]) -> u32
     3
 }
 
-// A TIMINGR word, or the number of a refusal and word 0.
-#[derive(Clone, Copy)]
-struct TimingAnswer {
-    refusal: u32,
-    timingr: u32,
+fn packed(timing: Result<I2cTiming, TimingRefusal>) -> Result<RawTimingr, TimingRefusal>
+    ensures { packed_answer result ≡ packed_timed timing }
+{
+    timing?.pack()
 }
 
-fn refused(why: TimingRefusal) -> TimingAnswer
-    ensures { result ≡ answer (timing_refusal_number why) 0 }
+// By hand: C reads two numbers, a refusal's or 0, and the TIMINGR word or 0.
+fn tell(packed: Result<RawTimingr, TimingRefusal>, timingr: &mut u32) -> u32
+    ensures { answer result timingr.new ≡ packed_answer packed }
 {
-    TimingAnswer {
-        refusal: why.number(),
-        timingr: 0,
+    match packed {
+        Ok(raw) => {
+            *timingr = raw.0;
+            0
+        }
+        Err(why) => {
+            *timingr = 0;
+            why.number()
+        }
     }
-}
-
-fn packed_answer(p: Packed) -> TimingAnswer
-    ensures { result ≡ packed_answer p }
-{
-    match p {
-        Packed::Raw(raw) => TimingAnswer {
-            refusal: 0,
-            timingr: raw.0,
-        },
-        Packed::Refused(why) => refused(why),
-    }
-}
-
-fn timed_answer(t: Timed) -> TimingAnswer
-    ensures { result ≡ packed_timed t }
-{
-    match t {
-        Timed::Timing(timing) => packed_answer(timing.pack()),
-        Timed::Refused(why) => refused(why),
-    }
-}
-
-fn tell(a: TimingAnswer, timingr: &mut u32) -> u32
-    ensures { answer result timingr.new ≡ a }
-{
-    *timingr = a.timingr;
-    a.refusal
 }
 
 // The TIMINGR word for a kernel clock and a bus frequency in hertz, or one of the refusals 1 to 6.
+#[tactic(auto, using(crate::proofs::Timing::packed, bands::proofs::Fits::timing_fits))]
 #[unsafe(no_mangle)]
 pub extern "C" fn huskerivory_timing(clock: u32, frequency: u32, timingr: &mut u32) -> u32
     ensures { answer result timingr.new ≡ timed_answer (timing_of clock frequency) }
 {
-    tell(
-        timed_answer(bands::calc_timing_params(clock, frequency)),
-        timingr,
-    )
-}
-
-fn loaded_answer(l: Loaded) -> u32
-    ensures { result ≡ loaded_answer l }
-{
-    match l {
-        Loaded::Accepted => 0,
-        Loaded::Refused(why) => why.number(),
-    }
+    tell(packed(bands::calc_timing_params(clock, frequency)), timingr)
 }
 
 // Looks at a board's own table of speed bands, 24 bytes to a row. 0, or 16.
@@ -99,10 +64,14 @@ fn loaded_answer(l: Loaded) -> u32
 pub extern "C" fn huskerivory_load_bands(bands: &[u8]) -> u32
     ensures { result ≡ loaded_answer (loaded_of (bands_in bands.now)) }
 {
-    loaded_answer(bands::load(bands))
+    match bands::load(bands) {
+        Ok(()) => 0,
+        Err(why) => why.number(),
+    }
 }
 
 // As `huskerivory_timing`, by a board's own table, which is looked at whole; 16 and 17 are refusals too.
+#[tactic(auto, using(crate::proofs::Timing::packed, bands::proofs::Fits::bands_fit))]
 #[unsafe(no_mangle)]
 pub extern "C" fn huskerivory_timing_by_bands(
     bands: &[u8],
@@ -112,22 +81,7 @@ pub extern "C" fn huskerivory_timing_by_bands(
 ) -> u32
     ensures { answer result timingr.new ≡ timed_answer (timing_by (bands_in bands.now) clock frequency) }
 {
-    tell(
-        timed_answer(bands::timing_by(bands, clock, frequency)),
-        timingr,
-    )
-}
-
-fn timing_in(fields: &[u8; 5]) -> I2cTiming
-    ensures { result ≡ timing_in fields.now }
-{
-    I2cTiming {
-        presc: fields[0],
-        scldel: fields[1],
-        sdadel: fields[2],
-        sclh: fields[3],
-        scll: fields[4],
-    }
+    tell(packed(bands::timing_by(bands, clock, frequency)), timingr)
 }
 
 // The TIMINGR word of five fields, or refusal 7.
@@ -135,8 +89,15 @@ fn timing_in(fields: &[u8; 5]) -> I2cTiming
 pub extern "C" fn huskerivory_pack(fields: &[u8; 5], timingr: &mut u32) -> u32
     ensures { answer result timingr.new ≡ packed_answer (pack_of (timing_in fields.now)) }
 {
-    let t = timing_in(fields);
-    tell(packed_answer(t.pack()), timingr)
+    let [presc, scldel, sdadel, sclh, scll] = *fields;
+    let timing = I2cTiming {
+        presc,
+        scldel,
+        sdadel,
+        sclh,
+        scll,
+    };
+    tell(timing.pack(), timingr)
 }
 
 #[unsafe(no_mangle)]
@@ -147,11 +108,14 @@ pub extern "C" fn huskerivory_unpack(timingr: u32, fields: &mut [u8; 5])
     *fields = [t.presc, t.scldel, t.sdadel, t.sclh, t.scll];
 }
 
-// Words read from bytes: an operation list, as far as it is looked at.
-fn list() -> [u32; 65]
-    ensures { length result ≡ 65 }
+// The words of an operation list, as far as it is looked at.
+// By hand: there is no heap, so each caller has room for the most.
+#[tactic(auto, using(words::proofs::Turns::decoded_room, crate::proofs::Answers::listed))]
+fn operations_in<'a>(bytes: &[u8], words: &'a mut [u32; 65]) -> &'a [u32]
+    ensures { result.now ≡ operations_in bytes.now }
 {
-    [0; 65]
+    let n = words::decode(bytes, words);
+    &words[..n]
 }
 
 // Begins a call. 0, or the number of the refusal.
@@ -164,14 +128,14 @@ pub extern "C" fn huskerivory_begin(
 ) -> u32
     ensures { as_begin_left result saved.new ≡ begin_left_in (description_of description.now) (operations_in operations.now) (length buffer.now) saved.old }
 {
-    let d = call::describe(description);
-    let mut ops = list();
-    let n = words::decode(operations, &mut ops);
-    call::begin(d, &ops[..n], buffer, saved)
+    let mut words = [0; 65];
+    let ops = operations_in(operations, &mut words);
+    call::begin(call::describe(description), ops, buffer, saved)
 }
 
 // Advances a call with answers, and leaves its accesses in the log. That a slice of bytes holds bytes is said too, so that what
 // holds of lists of advances has nothing to ask.
+#[tactic(auto, using(words::proofs::Round::all_below))]
 #[unsafe(no_mangle)]
 pub extern "C" fn huskerivory_advance(
     description: &[u32; 16],
@@ -185,10 +149,10 @@ pub extern "C" fn huskerivory_advance(
     ensures log_after { as_advance_left result answer.new saved.new buffer.new log.new ≡ advance_left_in (description_of description.now) (operations_in operations.now) saved.old buffer.old answers.now log.old }
     ensures bytes { Below 256 buffer.old × Below 256 answers.now }
 {
+    let mut words = [0; 65];
+    let ops = operations_in(operations, &mut words);
     let d = call::describe(description);
-    let mut ops = list();
-    let n = words::decode(operations, &mut ops);
-    call::advance(d, &ops[..n], saved, buffer, answers, log, answer)
+    call::advance(d, ops, saved, buffer, answers, log, answer)
 }
 
 // The access that the next advance makes first.
@@ -202,10 +166,9 @@ pub extern "C" fn huskerivory_next(
 ) -> u32
     ensures { kind_and_value result value.new ≡ access_in (description_of description.now) (operations_in operations.now) saved.now buffer.now }
 {
-    let d = call::describe(description);
-    let mut ops = list();
-    let n = words::decode(operations, &mut ops);
-    let access = call::next(d, &ops[..n], saved, buffer);
+    let mut words = [0; 65];
+    let ops = operations_in(operations, &mut words);
+    let access = call::next(call::describe(description), ops, saved, buffer);
     *value = access.value;
     access.kind
 }
@@ -216,6 +179,6 @@ pub extern "C" fn huskerivory_page(log: &[u8], page: &mut [u8], length: &mut u64
     ensures { as_page_left result length.new page.new ≡ page_left_in log.now page.old }
 {
     let laid = page::lay_out(log, page);
-    *length = laid.length() as u64;
-    laid.refusal()
+    *length = page::length(laid) as u64;
+    page::refusal(laid)
 }

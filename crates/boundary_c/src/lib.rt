@@ -1,6 +1,7 @@
 // The functions of `boundary` as a static library, for C and Rust callers: a library that other crates build on is linked by none, so each
 // stands here once more, under its name and with its clauses, and calls the one there. include/huskerivory.h says the same to a C
 // programmer; `compare` and the firmware link it.
+// By hand: the two sets of functions are C's interface.
 #![tactic(auto)]
 
 ghost use Rattle.std.specs.Prelude.{◌≡◌, length};

@@ -15,7 +15,7 @@ use Rattle.calls.specs.Bytes.{places_from, bytes_at, EndedAs}
 use Rattle.calls.specs.Calls.{Request, is_call, is_kind, transaction, receives, transmits}
 use Rattle.calls.specs.Outcomes.{is_done}
 use Rattle.calls.specs.Pieces.{pieces_of, view_of}
-use Rattle.calls.specs.Refusals.{has_pieces, takes, accepts}
+use Rattle.calls.specs.Refusals.{has_pieces, accepts}
 use Rattle.calls.specs.Run.{Entry, read_entry, write_entry, byte_of, Uncut, uncut_of, is_nack_clear, out_of, put_out_from, put_out, in_of, taken_in}
 use Rattle.calls.specs.Steps.{failing, byte_out, access_at, access_of, apply_of, counted, noted, begin_at, begin_of, same_step}
 use Rattle.calls.specs.Words.{register_of, alter_of}

@@ -2,6 +2,7 @@
 -- section "Bench" prints. With them runs that pin the step tables, entry by entry; each row says which. They are the Rust's, as
 -- `compare bench-text` prints them (of the first of `transfers` with document 01's outcome, of a board at 0x78 with document 02's address, of
 -- `totals` with document 02's total: docs/DIFFERENCES.md). Assumes nothing.
+use Rattle.std.specs.Prelude.{Option, Some, None}
 use Prim.Native.Nat.{ℕ, suc, ◌+◌}
 use mathlib.Core.Path.{◌≡◌, refl}
 use mathlib.Core.List.{List, [], ◌∷◌, ◌++◌, map}
@@ -19,8 +20,6 @@ use Rattle.calls.specs.Steps.{access_of, after_of, begin_of, fresh_at, saved_at}
 use Rattle.calls.specs.Words.{cr2_of, timingr_of, oar1_of, oar2_of, alter_of}
 use Rattle.calls.specs.declared.AddressMode.{AddressMode}
 use Rattle.calls.specs.declared.AddressMode.TheVariants.{AddressMode7bit, AddressMode10bit}
-use Rattle.calls.specs.declared.Configuration.{Configuration}
-use Rattle.calls.specs.declared.Configuration.TheVariants.{Unconfigured, Configured}
 use Rattle.calls.specs.declared.Description.{Description}
 use Rattle.calls.specs.declared.Outcome.{Outcome}
 use Rattle.calls.specs.declared.Outcome.TheVariants.{Done, Bus, Arbitration, Nack, Stopped, ExpectedWrite, ExpectedRead, EventRead, EventWrite, EventStop}
@@ -29,6 +28,7 @@ use Rattle.calls.specs.declared.Report.{Report}
 use Rattle.calls.specs.declared.Report.TheVariants.{Over, Full, Refused}
 use Rattle.calls.specs.declared.SavedCall.{SavedCall}
 use Rattle.calls.specs.declared.Step.TheVariants.{Ended, Wait, Event}
+use Rattle.calls.specs.declared.TargetConfig.{TargetConfig}
 
 -- what the bench prints of a call: how it ended, the answers used, the accesses, the buffer
 record Came : Type 0 where
@@ -61,12 +61,12 @@ abbrev from_timing : Case → Row
 from_timing c = record { asked = word c.question; answered = word c.answer }
 
 -- call n with its argument as in a bench file: the address of 7, the listen kind of 4 and 5
-abbrev pub description : ℕ → ℕ → AddressMode → ℕ → Configuration → Description
+abbrev pub description : ℕ → ℕ → AddressMode → ℕ → Option TargetConfig → Description
 description n argument mode timing config =
     record { call = n; address = argument; listen = argument; timing = record { 0 = timing }; config = config; mode = mode }
 
 abbrev pub plain : ℕ → ℕ → Description
-plain n argument = description n argument AddressMode7bit 0 Unconfigured
+plain n argument = description n argument AddressMode7bit 0 None
 
 -- accesses as the bench prints them
 abbrev r : ℕ → ℕ → Entry
@@ -116,7 +116,7 @@ transactions =
     -- Ten bits: `start` has no HEAD10R; `reload` no START, SADD or ADD10; `repeat_start` has HEAD10R. The start wait reads ISR
     -- and CR2 again while START stands. TCR ends the first operation and not TC, TC the second and not TCR, STOPF the last. RXNE comes before
     -- STOPF.
-    ∷ ran (description 7 0x2A5 AddressMode10bit 0 Unconfigured) (1 ∷ 1 ∷ 0x10001 ∷ []) (0x12 ∷ 0x34 ∷ 0 ∷ []) (Done 0)
+    ∷ ran (description 7 0x2A5 AddressMode10bit 0 None) (1 ∷ 1 ∷ 0x10001 ∷ []) (0x12 ∷ 0x34 ∷ 0 ∷ []) (Done 0)
     (w 0x04 0x01012AA5 ∷ r 0x18 1 ∷ r 0x04 0x2000 ∷ r 0x18 1 ∷ r 0x04 0 ∷ r 0x18 3 ∷ w 0x28 0x12 ∷ r 0x18 0x40 ∷ r 0x18 0x80
     ∷ w 0x04 0x00010000 ∷ r 0x18 1 ∷ r 0x04 0 ∷ r 0x18 3 ∷ w 0x28 0x34 ∷ r 0x18 0x80 ∷ r 0x18 0x40
     ∷ w 0x04 0x02013EA5 ∷ r 0x18 1 ∷ r 0x04 0 ∷ r 0x18 0x24 ∷ r 0x24 0x5A ∷ r 0x18 0x40 ∷ r 0x18 0x20 ∷ w 0x1C 0x20 ∷ [])
@@ -160,11 +160,11 @@ long =
     (r 0x18 2 ∷ w 0x28 0 ∷ r 0x18 0x40 ∷ r 0x18 0x80 ∷ w 0x04 0x02010000 ∷ r 0x18 1 ∷ r 0x04 0 ∷ r 0x18 2 ∷ w 0x28 0 ∷ r 0x18 0x20 ∷ w 0x1C 0x20 ∷ [])
     (replicate 256 0)
     -- ten bits, a write of 1 and a read of 256: HEAD10R stands where the read starts, and RD_WRN in both of its pieces
-    ∷ starts (description 7 0x123 AddressMode10bit 0 Unconfigured) (1 ∷ 0x10100 ∷ []) (replicate 257 0x11)
+    ∷ starts (description 7 0x123 AddressMode10bit 0 None) (1 ∷ 0x10100 ∷ []) (replicate 257 0x11)
     (w 0x04 0x00012923 ∷ r 0x18 1 ∷ r 0x04 0 ∷ r 0x18 2 ∷ w 0x28 0x11 ∷ r 0x18 0x40 ∷ w 0x04 0x01FF3D23 ∷ r 0x18 1 ∷ r 0x04 0 ∷ r 0x18 4 ∷ r 0x24 0x22 ∷ [])
     (0x11 ∷ 0x22 ∷ replicate 255 0x11)
     ∷ resumed (saved_at (fresh_at 7 Wait) Wait 1 254 0 0 (Done 0) 517)
-    (description 7 0x123 AddressMode10bit 0 Unconfigured) (1 ∷ 0x10100 ∷ []) (replicate 257 0x11) (Done 0)
+    (description 7 0x123 AddressMode10bit 0 None) (1 ∷ 0x10100 ∷ []) (replicate 257 0x11) (Done 0)
     (r 0x18 4 ∷ r 0x24 0x22 ∷ r 0x18 0x80 ∷ w 0x04 0x02010400 ∷ r 0x18 1 ∷ r 0x04 0 ∷ r 0x18 4 ∷ r 0x24 0x33 ∷ r 0x18 0x20 ∷ w 0x1C 0x20 ∷ [])
     (replicate 255 0x11 ++ 0x22 ∷ 0x33 ∷ [])
     -- one operation of no byte is an empty piece
@@ -314,19 +314,19 @@ controls =
     (r 0x00 0xFFFFFFFF ∷ w 0x00 0xFFFFFFFE ∷ r 0x00 0 ∷ r 0x00 0 ∷ r 0x00 1 ∷ r 0x00 0 ∷ r 0x00 0x1000 ∷ w 0x00 0x1001 ∷ [])
     []
     -- call 1 writes CR1 anew, and TIMINGR without bits 24 to 27
-    ∷ ran (description 1 0 AddressMode7bit 0x6FFB1C39 Unconfigured) [] [] (Done 0)
+    ∷ ran (description 1 0 AddressMode7bit 0x6FFB1C39 None) [] [] (Done 0)
     (r 0x00 0xFFFFFFFF ∷ w 0x00 0xFFFFFFFE ∷ w 0x10 0x60FB1C39 ∷ w 0x00 1 ∷ [])
     []
     -- and OAR1 before that, where it has a configuration
-    ∷ ran (description 1 0 AddressMode7bit 0x60FB1C39 (Configured (config_of 0x42))) [] [] (Done 0)
+    ∷ ran (description 1 0 AddressMode7bit 0x60FB1C39 (Some (config_of 0x42))) [] [] (Done 0)
     (r 0x00 0xFFFFFFFF ∷ w 0x00 0xFFFFFFFE ∷ w 0x10 0x60FB1C39 ∷ w 0x08 0x84 ∷ w 0x00 1 ∷ [])
     []
     -- call 2 writes neither SCLL nor SCLH, and changes PE and ANFOFF alone
-    ∷ ran (description 2 0 AddressMode7bit 0xFFFFFFFF (Configured (with_mask 2 (with_secondary 0x21 (with_mode AddressMode10bit (config_of 0x2A5)))))) [] [] (Done 0)
+    ∷ ran (description 2 0 AddressMode7bit 0xFFFFFFFF (Some (with_mask 2 (with_secondary 0x21 (with_mode AddressMode10bit (config_of 0x2A5)))))) [] [] (Done 0)
     (r 0x00 0xFFFFFFFF ∷ w 0x00 0xFFFFFFFE ∷ w 0x10 0xF0FF0000 ∷ w 0x08 0x6A5 ∷ w 0x0C 0x342 ∷ r 0x00 0xFFFFFFFE ∷ w 0x00 0xFFFFEFFF ∷ [])
     []
     -- a secondary address without a mask
-    ∷ ran (description 3 0 AddressMode7bit 0 (Configured (with_secondary 0x21 (config_of 0x42)))) [] [] (Done 0) (w 0x08 0x84 ∷ w 0x0C 0x42 ∷ []) []
+    ∷ ran (description 3 0 AddressMode7bit 0 (Some (with_secondary 0x21 (config_of 0x42)))) [] [] (Done 0) (w 0x08 0x84 ∷ w 0x0C 0x42 ∷ []) []
     -- 4 enables and 5 disables, kinds 0 to 2 in CR1, OAR1 and OAR2
     ∷ ran (plain 4 0) [] [] (Done 0) (r 0x00 0 ∷ w 0x00 0x00080000 ∷ []) []
     ∷ ran (plain 4 1) [] [] (Done 0) (r 0x08 0x84 ∷ w 0x08 0x8084 ∷ []) []

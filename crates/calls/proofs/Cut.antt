@@ -1,5 +1,6 @@
 -- Demand 3: however a call is cut into advances, refused ones among them, it is one uncut run. `cut_anywhere` is the theorem.
 -- Assumes nothing.
+use Rattle.std.specs.Prelude.{Result, Ok, Err}
 use Prim.Native.Nat.{ℕ, zero, suc, ◌+◌, ◌*◌, ◌/◌, ◌<◌}
 use native.Mathlib.Nat.{zero-add, add-zero, suc-add, add_assoc}
 use native.Mathlib.Omega.{arith}
@@ -33,8 +34,7 @@ use Rattle.calls.specs.declared.Report.{Report}
 use Rattle.calls.specs.declared.Report.TheVariants.{Over, Full, Waiting, Refused}
 use Rattle.calls.specs.declared.SavedCall.{SavedCall}
 use Rattle.calls.specs.declared.Step.TheVariants.{Ended}
-use Rattle.calls.specs.declared.Verdict.{Verdict}
-use Rattle.calls.specs.declared.Verdict.TheVariants.{Accepted, Refused as Rejected}
+use Rattle.calls.specs.declared.Refusal.{Refusal}
 
 -- ---- one advance
 
@@ -198,7 +198,7 @@ in_log A R g =
     (take_at (words_of R.entries) (drop (length (words_of R.entries)) A.log) (2 * length R.entries) (two_each R.entries))
 
 -- an accepted description and saved call are run
-pub runs : (c : Call) (d : Description) (ops : List ℕ) (n : ℕ) (s : SavedCall) (b l : List ℕ) → check_of d ops (length b) ≡ Accepted c
+pub runs : (c : Call) (d : Description) (ops : List ℕ) (n : ℕ) (s : SavedCall) (b l : List ℕ) → check_of d ops (length b) ≡ Ok c
     → T (accepts (request_of c d ops (length b)) s) → run_of d ops n s b l ≡ advance_from (request_of c d ops (length b)) n s b l
 unfolding run_of
 runs c d ops n s b l e h = rw (e, is_true (accepts (request_of c d ops (length b)) s) h)
@@ -215,10 +215,10 @@ pub record Stopped (s : SavedCall) (b : List ℕ) (R : Run) : Type 0 where
   pub used : R.used ≡ 0
   pub entries : R.entries ≡ []
 
-pub refusal_stops : (v : Verdict) (d : Description) (ops : List ℕ) (n : ℕ) (s : SavedCall) (b l : List ℕ)
+pub refusal_stops : (v : Result Call Refusal) (d : Description) (ops : List ℕ) (n : ℕ) (s : SavedCall) (b l : List ℕ)
     → T (is_refusal (run_by v d ops n s b l).report) → Stopped s b (run_by v d ops n s b l)
-refusal_stops (Rejected r) d ops n s b l h = record { saved = refl; buffer = refl; used = refl; entries = refl }
-refusal_stops (Accepted c) d ops n s b l h = go (accepts q s) h
+refusal_stops (Err r) d ops n s b l h = record { saved = refl; buffer = refl; used = refl; entries = refl }
+refusal_stops (Ok c) d ops n s b l h = go (accepts q s) h
   where
     q : Request
     q = request_of c d ops (length b)
@@ -328,7 +328,7 @@ ran_accepted q s b A As R g p h r = record {
         came_as q (saved_after As A.result.saved) (buffer_after As A.buffer_left) A R g p.came (i.0 ∙ g.saved) (i.1 ∙ g.buffer)
     go (last B) e c = c
 
-module _ (c : Call) (d : Description) (ops : List ℕ) (n : ℕ) (ok : check_of d ops n ≡ Accepted c) where
+module _ (c : Call) (d : Description) (ops : List ℕ) (n : ℕ) (ok : check_of d ops n ≡ Ok c) where
   abbrev q : Request
   q = request_of c d ops n
 
@@ -384,10 +384,10 @@ one_run q b As r = record {
 no_number : (c : Call) → eqb 0 (call_number c) ≡ false
 no_number c = is_false (eqb 0 (call_number c)) (every (λ c. not (eqb 0 (call_number c))) tt c)
 
-pub refuses : (v : Verdict) (d : Description) (ops : List ℕ) (n : ℕ) (b l : List ℕ) → T (is_refusal (run_by v d ops n no_call b l).report)
+pub refuses : (v : Result Call Refusal) (d : Description) (ops : List ℕ) (n : ℕ) (b l : List ℕ) → T (is_refusal (run_by v d ops n no_call b l).report)
 unfolding accepts
-refuses (Rejected r) d ops n b l = tt
-refuses (Accepted c) d ops n b l = rw (no_number c) tt
+refuses (Err r) d ops n b l = tt
+refuses (Ok c) d ops n b l = rw (no_number c) tt
 
 refused_all : (A : Advance) → Meets A no_call → T (refused A)
 unfolding run_of
@@ -415,8 +415,8 @@ pub cut_anywhere : (d : Description) (ops : List ℕ) (b : List ℕ) (As : List 
 unfolding begun_of
 cut_anywhere d ops b As f = go (check_of d ops (length b)) refl f
   where
-    go : (v : Verdict) → check_of d ops (length b) ≡ v → Follows d ops As (begun_by v d ops (length b)).saved b → CutAnywhere v d ops b As
-    go (Accepted c) e f =
+    go : (v : Result Call Refusal) → check_of d ops (length b) ≡ v → Follows d ops As (begun_by v d ops (length b)).saved b → CutAnywhere v d ops b As
+    go (Ok c) e f =
         let q : Request = request_of c d ops (length b) in
         one_run q b As (ran c d ops (length b) e As (begin_of q) b refl (accepted_begin q) f)
-    go (Rejected r) e f = no_run d ops As no_call b refl f
+    go (Err r) e f = no_run d ops As no_call b refl f

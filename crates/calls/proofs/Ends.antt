@@ -1,5 +1,6 @@
 -- Every run ends: at most five writes follow one another, so a log of six places to each answer, and six more, is never
 -- full. `run_ends` says so, and `whole_run` that such a run is the whole uncut run. Assumes nothing.
+use Rattle.std.specs.Prelude.{Result, Ok, Err}
 use Prim.Native.Nat.{ℕ, zero, suc, ◌+◌, ◌-◌, ◌*◌, ◌≤◌, ◌<◌}
 use native.Mathlib.Omega.{arith}
 use mathlib.Core.Path.{◌≡◌, refl, ◌∙◌}
@@ -27,8 +28,6 @@ use Rattle.calls.specs.declared.Report.TheVariants.{Full, Refused}
 use Rattle.calls.specs.declared.SavedCall.{SavedCall}
 use Rattle.calls.specs.declared.Step.{Step}
 use Rattle.calls.specs.declared.Step.TheVariants.{Ended}
-use Rattle.calls.specs.declared.Verdict.{Verdict}
-use Rattle.calls.specs.declared.Verdict.TheVariants.{Accepted, Refused as Rejected}
 use Rattle.calls.proofs.Accepted.{known, notes_well, accepted_after, accepted_begin}
 use Rattle.calls.proofs.Along.{no_access}
 use Rattle.calls.proofs.Cut.{RunCame, over', full', waiting', part, ended_stays, runs}
@@ -149,12 +148,12 @@ module _ (q : Request) (n : ℕ) (s : SavedCall) (b l : List ℕ) where
       (r ∙ rw x)
 
 -- what begin handed out
-begun_accepted : (c : Call) (d : Description) (ops : List ℕ) (n : ℕ) → check_of d ops n ≡ Accepted c
+begun_accepted : (c : Call) (d : Description) (ops : List ℕ) (n : ℕ) → check_of d ops n ≡ Ok c
     → (begun_of d ops n).saved ≡ begin_of (request_of c d ops n)
 unfolding begun_of
 begun_accepted c d ops n e = rw e
 
-refused_run : (r : Refusal) (d : Description) (ops : List ℕ) (n : ℕ) (b l : List ℕ) → check_of d ops (length b) ≡ Rejected r
+refused_run : (r : Refusal) (d : Description) (ops : List ℕ) (n : ℕ) (b l : List ℕ) → check_of d ops (length b) ≡ Err r
     → run_of d ops n (begun_of d ops (length b)).saved b l ≡ stops (Refused r) no_call b
 unfolding begun_of run_of
 refused_run r d ops n b l e = rw e
@@ -163,10 +162,10 @@ pub whole_run : (d : Description) (ops : List ℕ) (n : ℕ) (b l : List ℕ) �
     → WholeCall (check_of d ops (length b)) d ops b l (run_of d ops n (begun_of d ops (length b)).saved b l)
 whole_run d ops n b l h = go (check_of d ops (length b)) refl
   where
-    go : (v : Verdict) → check_of d ops (length b) ≡ v
+    go : (v : Result Call Refusal) → check_of d ops (length b) ≡ v
         → WholeCall v d ops b l (run_of d ops n (begun_of d ops (length b)).saved b l)
-    go (Rejected r) e = refused_run r d ops n b l e
-    go (Accepted c) e =
+    go (Err r) e = refused_run r d ops n b l e
+    go (Ok c) e =
         let q : Request = request_of c d ops (length b) in
         let s : SavedCall = begin_of q in
         rw (begun_accepted c d ops (length b) e, runs c d ops n s b l e (accepted_begin q))

@@ -1,5 +1,6 @@
 -- A call and a step are known by their numbers, so what a computed test finds of each call of the list holds of any
 -- call, and likewise of the steps. Assumes nothing.
+use Rattle.std.specs.Prelude.{Option, Some}
 use Prim.Native.Nat.{ℕ, zero, suc}
 use mathlib.Core.Path.{◌≡◌, refl, sym, ap, subst, ◌∙◌}
 use mathlib.Core.Bool.{Bool, true, not, ◌&&◌, ◌||◌}
@@ -13,8 +14,6 @@ use Rattle.calls.specs.Refusals.{listed, lookup_in, lookup_of, Group, takes_grou
 use Rattle.calls.specs.declared.Ack.TheVariants.{AutoAck, ManualAck}
 use Rattle.calls.specs.declared.Call.{Call}
 use Rattle.calls.specs.declared.Call.TheVariants.{New, TargetNew, ConfigureTargetAddresses, EnableTargetEvent, DisableTargetEvent, Reset, Transaction, WaitForEvent, Read, Write, WaitForTargetRead, WaitForTargetWrite, WaitForStop, AckTransfer, NackTransfer}
-use Rattle.calls.specs.declared.Lookup.{Lookup}
-use Rattle.calls.specs.declared.Lookup.TheVariants.{Listed}
 use Rattle.calls.specs.declared.Modify.{Modify}
 use Rattle.calls.specs.declared.Modify.TheVariants.{PeOff, PeOn, Listen, NackSet, ReloadOff, SbcOff, ReloadClear, SbcOn, ReloadOn, NbytesSet}
 use Rattle.calls.specs.declared.Step.{Step}
@@ -26,7 +25,7 @@ all f [] = true
 all f (x ∷ xs) = f x && all f xs
 
 -- ---- the calls: the listed one of a call's number is the call
-pub found : (c : Call) → lookup_of (call_number c) ≡ Listed c
+pub found : (c : Call) → lookup_of (call_number c) ≡ Some c
 unfolding lookup_of
 found New = refl
 found TargetNew = refl
@@ -54,10 +53,10 @@ pub by_number : (c e : Call) → T (eqb (call_number c) (call_number e)) → c �
 by_number c e h = let n : call_number c ≡ call_number e = eqb→eq (call_number c) (call_number e) h in cc (found c, found e)
 
 of_listed : (f : Call → Bool) (cs : List Call) (c : Call) →
-    lookup_in cs (call_number c) ≡ Listed c → T (all f cs) → T (f c)
+    lookup_in cs (call_number c) ≡ Some c → T (all f cs) → T (f c)
 of_listed f [] c e t = let z : f c ≡ true = cc in rw z tt
 of_listed f (x ∷ xs) c e t =
-    by_test (λ (l : Lookup). l ≡ Listed c → T (f c)) (eqb (call_number c) (call_number x))
+    by_test (λ (l : Option Call). l ≡ Some c → T (f c)) (eqb (call_number c) (call_number x))
     (λ _ e. let z : x ≡ c = cc in rw z at (and_l (f x) (all f xs) t))
     (λ _ e. of_listed f xs c e (and_r (f x) (all f xs) t))
     e

@@ -1,5 +1,6 @@
 -- What an accepted call is: its number is the description's, and rows 10 and 11 leave this of its operations and buffer.
 -- Assumes nothing.
+use Rattle.std.specs.Prelude.{Option, Some, None, Result, Ok, Err}
 use Prim.Native.Nat.{ℕ, ◌≤◌}
 use native.Mathlib.Omega.{arith}
 use mathlib.Core.Path.{◌≡◌, sym}
@@ -11,11 +12,7 @@ use Rattle.calls.specs.Calls.{call_number, transaction, manual, receives, transm
 use Rattle.calls.specs.Refusals.{no_such_call, address_wide, total, any_of, strange_bits, list_wrong, buffer_wrong, verdict_of, request_of, verdict_by, listed, lookup_in, lookup_of, check_of}
 use Rattle.calls.specs.declared.Call.{Call}
 use Rattle.calls.specs.declared.Description.{Description}
-use Rattle.calls.specs.declared.Lookup.{Lookup}
-use Rattle.calls.specs.declared.Lookup.TheVariants.{Listed, Unlisted}
 use Rattle.calls.specs.declared.Refusal.{Refusal}
-use Rattle.calls.specs.declared.Verdict.{Verdict}
-use Rattle.calls.specs.declared.Verdict.TheVariants.{Accepted, Refused}
 use Rattle.calls.proofs.Logic.{by_test, nor_1}
 
 pub record Fit (c : Call) (ops : List ℕ) (n : ℕ) : Type 0 where
@@ -24,9 +21,9 @@ pub record Fit (c : Call) (ops : List ℕ) (n : ℕ) : Type 0 where
   pub sum : T (transaction c) → total ops ≡ n
 
 -- a call that is looked up has that number
-abbrev Numbered : ℕ → Lookup → Type 0
-Numbered n (Listed c) = call_number c ≡ n
-Numbered n Unlisted = Unit {0}
+abbrev Numbered : ℕ → Option Call → Type 0
+Numbered n (Some c) = call_number c ≡ n
+Numbered n None = Unit {0}
 
 looked_up : (cs : List Call) (n : ℕ) → Numbered n (lookup_in cs n)
 looked_up [] n = tt
@@ -39,7 +36,7 @@ record Passed (c : Call) (d : Description) (ops : List ℕ) (n : ℕ) : Type 0 w
   buffer : T (not (buffer_wrong c n))
 
 passed : (c₀ c : Call) (d : Description) (ops : List ℕ) (n : ℕ) → call_number c₀ ≡ d.call
-    → verdict_of (request_of c₀ d ops n) ≡ Accepted c → Passed c d ops n
+    → verdict_of (request_of c₀ d ops n) ≡ Ok c → Passed c d ops n
 unfolding verdict_of
 passed c₀ c d ops n f =
     by_test P (no_such_call c₀ d) (λ _ e. refused e) (λ _.
@@ -48,21 +45,21 @@ passed c₀ c d ops n f =
     by_test P (buffer_wrong c₀ n) (λ _ e. refused e) (λ k e.
     let same : c ≡ c₀ = cc in rw same (record { number = f; list = i; buffer = k })))))
   where
-    P : Verdict → Type 0
-    P v = v ≡ Accepted c → Passed c d ops n
+    P : Result Call Refusal → Type 0
+    P v = v ≡ Ok c → Passed c d ops n
 
-    refused : {r : Refusal} → Refused r ≡ Accepted c → Passed c d ops n
+    refused : {r : Refusal} → Err r ≡ Ok c → Passed c d ops n
     refused e = let z : ◌≡◌ {A = ℕ} 0 1 = cc in absurd (omega arith)
 
-checked : (c : Call) (d : Description) (ops : List ℕ) (n : ℕ) → check_of d ops n ≡ Accepted c → Passed c d ops n
+checked : (c : Call) (d : Description) (ops : List ℕ) (n : ℕ) → check_of d ops n ≡ Ok c → Passed c d ops n
 unfolding check_of lookup_of
 checked c d ops n = go (lookup_of d.call) (looked_up listed d.call)
   where
-    go : (l : Lookup) → Numbered d.call l → verdict_by l d ops n ≡ Accepted c → Passed c d ops n
-    go Unlisted f e = let z : ◌≡◌ {A = ℕ} 0 1 = cc in absurd (omega arith)
-    go (Listed c₀) f e = passed c₀ c d ops n f e
+    go : (l : Option Call) → Numbered d.call l → verdict_by l d ops n ≡ Ok c → Passed c d ops n
+    go None f e = let z : ◌≡◌ {A = ℕ} 0 1 = cc in absurd (omega arith)
+    go (Some c₀) f e = passed c₀ c d ops n f e
 
-pub accepted_number : (c : Call) (d : Description) (ops : List ℕ) (n : ℕ) → check_of d ops n ≡ Accepted c → call_number c ≡ d.call
+pub accepted_number : (c : Call) (d : Description) (ops : List ℕ) (n : ℕ) → check_of d ops n ≡ Ok c → call_number c ≡ d.call
 accepted_number c d ops n e = (checked c d ops n e).number
 
 -- the list of a transaction: not too many, and the whole buffer
@@ -73,7 +70,7 @@ list_fits true false false true h x = (tt, tt)
 list_fits true false false false h x = absurd h
 list_fits false a b e h x = absurd x
 
-pub accepted_fit : (c : Call) (d : Description) (ops : List ℕ) (n : ℕ) → check_of d ops n ≡ Accepted c → Fit c ops n
+pub accepted_fit : (c : Call) (d : Description) (ops : List ℕ) (n : ℕ) → check_of d ops n ≡ Ok c → Fit c ops n
 accepted_fit c d ops n e =
     let p = checked c d ops n e in
     record {

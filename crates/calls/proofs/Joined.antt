@@ -1,4 +1,5 @@
 -- An advance made in two pieces is one advance, as its caller sees it: `in_pieces` is the theorem. Assumes nothing.
+use Rattle.std.specs.Prelude.{Result, Ok, Err}
 use Prim.Native.Nat.{ℕ, zero, suc, ◌+◌, ◌≤◌}
 use native.Mathlib.Nat.{zero-add, suc-add, add_assoc}
 use native.Mathlib.Omega.{arith}
@@ -24,8 +25,6 @@ use Rattle.calls.specs.declared.Report.{Report}
 use Rattle.calls.specs.declared.Report.TheVariants.{Over, Full, Waiting, Refused}
 use Rattle.calls.specs.declared.SavedCall.{SavedCall}
 use Rattle.calls.specs.declared.Step.TheVariants.{Ended}
-use Rattle.calls.specs.declared.Verdict.{Verdict}
-use Rattle.calls.specs.declared.Verdict.TheVariants.{Accepted, Refused as Rejected}
 use Rattle.calls.proofs.Along.{no_access}
 use Rattle.calls.proofs.Cut.{part, runs}
 use Rattle.calls.proofs.Logic.{both, is_true, is_false}
@@ -77,7 +76,7 @@ module _ (q : Request) (n : ℕ) where
 
 -- what an accepted advance leaves is accepted again, with the same description
 again : (c : Call) (d : Description) (ops : List ℕ) (m n : ℕ) (s : SavedCall) (b l l' : List ℕ)
-    → check_of d ops (length b) ≡ Accepted c → T (accepts (request_of c d ops (length b)) s)
+    → check_of d ops (length b) ≡ Ok c → T (accepts (request_of c d ops (length b)) s)
     → let R : Run = advance_from (request_of c d ops (length b)) m s b l in
     run_of d ops n R.saved R.buffer l' ≡ advance_from (request_of c d ops (length b)) n R.saved R.buffer l'
 again c d ops m n s b l l' e h =
@@ -88,27 +87,27 @@ again c d ops m n s b l l' e h =
 
 -- a refused one is nothing but that
 rejected : (r : Refusal) (d : Description) (ops : List ℕ) (n : ℕ) (s : SavedCall) (b l : List ℕ)
-    → check_of d ops (length b) ≡ Rejected r → run_of d ops n s b l ≡ stops (Refused r) s b
+    → check_of d ops (length b) ≡ Err r → run_of d ops n s b l ≡ stops (Refused r) s b
 unfolding run_of
 rejected r d ops n s b l e = rw e
 
 unfit : (c : Call) (d : Description) (ops : List ℕ) (n : ℕ) (s : SavedCall) (b l : List ℕ)
-    → check_of d ops (length b) ≡ Accepted c → T (not (accepts (request_of c d ops (length b)) s))
+    → check_of d ops (length b) ≡ Ok c → T (not (accepts (request_of c d ops (length b)) s))
     → run_of d ops n s b l ≡ stops (Refused BadSavedCall) s b
 unfolding run_of
 unfit c d ops n s b l e h = rw (e, is_false (accepts (request_of c d ops (length b)) s) h)
 
 -- an advance is run, or is refused whatever its log
 pub data Kind (d : Description) (ops : List ℕ) (s : SavedCall) (b : List ℕ) : Type 0 where
-  run : (c : Call) → check_of d ops (length b) ≡ Accepted c → T (accepts (request_of c d ops (length b)) s) → Kind d ops s b
+  run : (c : Call) → check_of d ops (length b) ≡ Ok c → T (accepts (request_of c d ops (length b)) s) → Kind d ops s b
   refused : (r : Refusal) → ((n : ℕ) (l : List ℕ) → run_of d ops n s b l ≡ stops (Refused r) s b) → Kind d ops s b
 
 pub kind : (d : Description) (ops : List ℕ) (s : SavedCall) (b : List ℕ) → Kind d ops s b
 kind d ops s b = go (check_of d ops (length b)) refl
   where
-    go : (v : Verdict) → check_of d ops (length b) ≡ v → Kind d ops s b
-    go (Rejected r) e = refused r (λ n l. rejected r d ops n s b l e)
-    go (Accepted c) e =
+    go : (v : Result Call Refusal) → check_of d ops (length b) ≡ v → Kind d ops s b
+    go (Err r) e = refused r (λ n l. rejected r d ops n s b l e)
+    go (Ok c) e =
         both (accepts (request_of c d ops (length b)) s)
         (λ h. run c e h)
         (λ h. refused BadSavedCall (λ n l. unfit c d ops n s b l e h))

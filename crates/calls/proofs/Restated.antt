@@ -1,5 +1,6 @@
 -- What demand 3 and document 01's section "A call, from its entry" say of a begin and the advances after it, once more, fact by fact, in the
 -- words of Plain. Each theorem is read off `demand_3`: a statement that loses a fact, and its proof with it, fails here. Assumes nothing.
+use Rattle.std.specs.Prelude.{Result, Ok, Err}
 use Prim.Native.Nat.{ℕ, zero, suc, ◌+◌, ◌-◌, ◌/◌, ◌%◌, ◌≤◌, ◌<◌, min}
 use native.Mathlib.Omega.{arith}
 use mathlib.Core.Logic.{◌≢◌}
@@ -10,7 +11,7 @@ use lib.Dec.{T, T_not, eqb, eqb→eq}
 use borrow.Author.Tests.{ne_eqb}
 use lib.ListN.{length, get_or, drop}
 use Rattle.fields.specs.Field.{bits_at, get_of, number}
-use Rattle.calls.specs.Advances.{Advance, refused, made, joined, buffer_after, saved_after, nobody, last, last_accepted, Came, over, full, waiting, LastCame, NoneRefused, RefusedUntouched, AllRefused, NoRun}
+use Rattle.calls.specs.Advances.{Advance, refused, buffer_after, saved_after, nobody, last, last_accepted, Came, over, full, waiting, LastCame, NoneRefused, RefusedUntouched, AllRefused, NoRun}
 use Rattle.calls.specs.AlreadyCut.{already_cut, sizes, AsCut}
 use Rattle.calls.specs.Bytes.{EndedAs, bytes_at, caller_bytes, read_places}
 use Rattle.calls.specs.Calls.{Request, transaction}
@@ -33,8 +34,6 @@ use Rattle.registers.specs.declared.Register.TheVariants.{Oar1, Isr}
 use Rattle.calls.specs.declared.Report.TheVariants.{Over, Full, Waiting}
 use Rattle.calls.specs.declared.SavedCall.{SavedCall}
 use Rattle.calls.specs.declared.Step.TheVariants.{Ended}
-use Rattle.calls.specs.declared.Verdict.{Verdict}
-use Rattle.calls.specs.declared.Verdict.TheVariants.{Accepted, Refused as Rejected}
 use Rattle.calls.proofs.AlreadyCut.{long_cards}
 use Rattle.calls.proofs.Demand.{demand_3}
 use Rattle.calls.proofs.Every.{is_eq}
@@ -42,12 +41,12 @@ use Rattle.calls.proofs.Fit.{accepted_fit}
 use Rattle.calls.proofs.Logic.{is_true, is_false}
 use Rattle.calls.proofs.Plain.{Refuses, LeftAlone, Leads, accesses, entries, answers, gave, received, read_at, sent, numbered, is_transaction, is_sender, is_receiver, to_send, to_fill, to_keep, accesses_are, entries_are, answers_are, is_refused, not_refused, refuses, led, gave-is, received_is, reads_are, sent_is, transaction-is, sender-is, receiver-is, auto_sender, is_auto, is_manual_write, no_manual_write, event-is, last_word, fill_is, send-is, keep-is, padded}
 
-begun_at : (c : Call) (d : Description) (ops : List ℕ) (n : ℕ) → check_of d ops n ≡ Accepted c →
+begun_at : (c : Call) (d : Description) (ops : List ℕ) (n : ℕ) → check_of d ops n ≡ Ok c →
     (begun_of d ops n).saved ≡ begin_of (request_of c d ops n)
 unfolding begun_of
 begun_at c d ops n e = rw e
 
-not_begun : (r : Refusal) (d : Description) (ops : List ℕ) (n : ℕ) → check_of d ops n ≡ Rejected r → (begun_of d ops n).saved ≡ no_call
+not_begun : (r : Refusal) (d : Description) (ops : List ℕ) (n : ℕ) → check_of d ops n ≡ Err r → (begun_of d ops n).saved ≡ no_call
 unfolding begun_of
 not_begun r d ops n e = rw e
 
@@ -91,7 +90,7 @@ left_alone (B ∷ before) A after s₀ s h e r = left_alone before A after B.res
 -- Begin was accepted as the call c, with the description d, the operations ops and the buffer b; the advances As followed, and led to
 -- the saved call s' and the buffer b'.
 module _ (c : Call) (d : Description) (ops b : List ℕ) (As : List Advance) (s' : SavedCall) (b' : List ℕ)
-    (begun : check_of d ops (length b) ≡ Accepted c) (leads : Leads d ops As (begun_of d ops (length b)).saved b s' b') where
+    (begun : check_of d ops (length b) ≡ Ok c) (leads : Leads d ops As (begun_of d ops (length b)).saved b s' b') where
   abbrev pub q : Request
   q = request_of c d ops (length b)
 
@@ -103,7 +102,7 @@ module _ (c : Call) (d : Description) (ops b : List ℕ) (As : List Advance) (s'
   log = (run []).log
 
   kept : Kept q b As
-  kept = subst (λ (v : Verdict). Demand3 v d ops b As) begun (demand_3 d ops b As (led leads).follows)
+  kept = subst (λ (v : Result Call Refusal). Demand3 v d ops b As) begun (demand_3 d ops b As (led leads).follows)
 
   started : (begun_of d ops (length b)).saved ≡ begin_of q
   started = begun_at c d ops (length b) begun
@@ -372,9 +371,9 @@ module _ (c : Call) (d : Description) (ops b : List ℕ) (As : List Advance) (s'
 
 -- Begin was refused: so is every advance, and nothing is done.
 module _ (r : Refusal) (d : Description) (ops b : List ℕ) (As : List Advance) (s' : SavedCall) (b' : List ℕ)
-    (begun : check_of d ops (length b) ≡ Rejected r) (leads : Leads d ops As (begun_of d ops (length b)).saved b s' b') where
+    (begun : check_of d ops (length b) ≡ Err r) (leads : Leads d ops As (begun_of d ops (length b)).saved b s' b') where
   no_run : NoRun b As
-  no_run = subst (λ (v : Verdict). Demand3 v d ops b As) begun (demand_3 d ops b As (led leads).follows)
+  no_run = subst (λ (v : Result Call Refusal). Demand3 v d ops b As) begun (demand_3 d ops b As (led leads).follows)
 
   not_started : (begun_of d ops (length b)).saved ≡ no_call
   not_started = not_begun r d ops (length b) begun
@@ -451,5 +450,5 @@ module _ (o m : ℕ) (is : length_of o ≡ m) where
   within_1_and_255 z i h = ((long_cards.cuts o).at_least (λ e. z (sym is ∙ e)) i h, (long_cards.cuts o).at_most i)
 
 -- nothing is refused as 9
-pub never_9 : (d : Description) (ops : List ℕ) (n : ℕ) (r : Refusal) → check_of d ops n ≡ Rejected r → refusal_number r ≢ 9
+pub never_9 : (d : Description) (ops : List ℕ) (n : ℕ) (r : Refusal) → check_of d ops n ≡ Err r → refusal_number r ≢ 9
 never_9 d ops n r h = long_cards.no_nine r

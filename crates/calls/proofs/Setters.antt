@@ -1,6 +1,7 @@
 -- Configurations that a chain of setters builds, and the words of OAR1 and OAR2 that they end in, as one computed table:
 -- document 01's proved cases (own address 0x42, secondary address 0x21 with mask 2), each setter by itself, and a chain in
 -- another order. Assumes nothing.
+use Rattle.std.specs.Prelude.{Some}
 use Prim.Native.Nat.{ℕ}
 use mathlib.Core.Path.{◌≡◌, refl}
 use mathlib.Core.List.{List, [], ◌∷◌, map}
@@ -8,7 +9,6 @@ use Rattle.fields.specs.Field.{with_bits, put_of}
 use Rattle.calls.specs.Calls.{config_of, with_own, with_mode, with_secondary, with_mask}
 use Rattle.calls.specs.Words.{oar1_of, oar2_of}
 use Rattle.calls.specs.declared.AddressMode.TheVariants.{AddressMode7bit, AddressMode10bit}
-use Rattle.calls.specs.declared.Configuration.TheVariants.{Configured}
 use Rattle.calls.specs.declared.TargetConfig.{TargetConfig}
 
 record Words : Type 0 where
@@ -20,7 +20,7 @@ record Row : Type 0 where
   words : Words
 
 abbrev words_of : TargetConfig → Words
-words_of t = record { oar1 = oar1_of (Configured t); oar2 = oar2_of (Configured t) }
+words_of t = record { oar1 = oar1_of (Some t); oar2 = oar2_of (Some t) }
 
 abbrev row : TargetConfig → ℕ → ℕ → Row
 row t oar1 oar2 = record { config = t; words = record { oar1 = oar1; oar2 = oar2 } }

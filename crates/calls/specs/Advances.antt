@@ -1,6 +1,6 @@
 -- A list of advances after one begin, and what demand 3 says of it: however a call is cut, it is one uncut run.
 -- Assumes nothing.
-use Rattle.std.specs.Prelude.{ℕ, ◌+◌, ◌*◌, ◌/◌, ◌<◌, ◌≡◌, Bool, true, false, cond, not, List, [], ◌∷◌, ◌++◌, T, ltb, length, take}
+use Rattle.std.specs.Prelude.{ℕ, ◌+◌, ◌*◌, ◌/◌, ◌<◌, ◌≡◌, Bool, true, false, cond, not, List, [], ◌∷◌, ◌++◌, T, ltb, length, take, Result, Ok, Err}
 use Rattle.registers.specs.declared.Register.{Register}
 use Rattle.calls.specs.Calls.{Request}
 use Rattle.calls.specs.Next.{next_of}
@@ -14,8 +14,8 @@ use Rattle.calls.specs.declared.Report.{Report}
 use Rattle.calls.specs.declared.Report.TheVariants.{Over, Full, Waiting, Refused}
 use Rattle.calls.specs.declared.SavedCall.{SavedCall}
 use Rattle.calls.specs.declared.Step.TheVariants.{Ended}
-use Rattle.calls.specs.declared.Verdict.{Verdict}
-use Rattle.calls.specs.declared.Verdict.TheVariants.{Accepted, Refused as Rejected}
+use Rattle.calls.specs.declared.Call.{Call}
+use Rattle.calls.specs.declared.Refusal.{Refusal}
 
 -- A call of advance: what it was lent, what it returned, and what it left in the buffer and the log.
 pub record Advance : Type 0 where
@@ -154,6 +154,6 @@ pub record NoRun (b : List ℕ) (As : List Advance) : Type 0 where
   pub joined : joined As ≡ []
   pub buffer : buffer_after As b ≡ b
 
-abbrev pub CutAnywhere : Verdict → Description → List ℕ → List ℕ → List Advance → Type 0
-CutAnywhere (Accepted c) d ops b As = OneRun (request_of c d ops (length b)) b As
-CutAnywhere (Rejected r) d ops b As = NoRun b As
+abbrev pub CutAnywhere : Result Call Refusal → Description → List ℕ → List ℕ → List Advance → Type 0
+CutAnywhere (Ok c) d ops b As = OneRun (request_of c d ops (length b)) b As
+CutAnywhere (Err r) d ops b As = NoRun b As

@@ -1,18 +1,13 @@
 -- The listed calls with document 01's numbers, what each has to do with bytes and events, and what is asked of one.
 -- Assumes nothing.
-use Rattle.std.specs.Prelude.{ℕ, ◌+◌, Bool, true, false, ◌&&◌, ◌||◌, List, eqb, leb}
+use Rattle.std.specs.Prelude.{ℕ, ◌+◌, Bool, true, false, ◌&&◌, ◌||◌, List, eqb, leb, Option, Some, None}
 use Rattle.calls.specs.declared.Ack.{Ack}
 use Rattle.calls.specs.declared.Ack.TheVariants.{AutoAck, ManualAck}
 use Rattle.calls.specs.declared.Call.{Call}
 use Rattle.calls.specs.declared.Call.TheVariants.{New, TargetNew, ConfigureTargetAddresses, EnableTargetEvent, DisableTargetEvent, Reset, Transaction, WaitForEvent, Read, Write, WaitForTargetRead, WaitForTargetWrite, WaitForStop, AckTransfer, NackTransfer}
 use Rattle.calls.specs.declared.AddressMode.{AddressMode}
 use Rattle.calls.specs.declared.AddressMode.TheVariants.{AddressMode7bit}
-use Rattle.calls.specs.declared.SecondaryAddress.{SecondaryAddress}
-use Rattle.calls.specs.declared.SecondaryAddress.TheVariants.{NoSecondary, Secondary}
-use Rattle.calls.specs.declared.MaskBits.TheVariants.{Unmasked, Masked}
 use Rattle.calls.specs.declared.TargetConfig.{TargetConfig}
-use Rattle.calls.specs.declared.Configuration.{Configuration}
-use Rattle.calls.specs.declared.Configuration.TheVariants.{Unconfigured, Configured}
 use Rattle.calls.specs.declared.Description.{Description}
 
 -- 8 to 13 mean AutoAck; adding 16 means ManualAck
@@ -39,7 +34,7 @@ call_number NackTransfer = 15
 
 -- The target's configuration, and what its setters change.
 abbrev pub config_of : ℕ → TargetConfig
-config_of own = record { own = own; secondary = NoSecondary; mask = Unmasked; mode = AddressMode7bit }
+config_of own = record { own = own; secondary = None; mask = None; mode = AddressMode7bit }
 
 abbrev pub with_own : ℕ → TargetConfig → TargetConfig
 with_own own t = record { own = own; secondary = t.secondary; mask = t.mask; mode = t.mode }
@@ -48,10 +43,10 @@ abbrev pub with_mode : AddressMode → TargetConfig → TargetConfig
 with_mode mode t = record { own = t.own; secondary = t.secondary; mask = t.mask; mode = mode }
 
 abbrev pub with_secondary : ℕ → TargetConfig → TargetConfig
-with_secondary address t = record { own = t.own; secondary = Secondary address; mask = t.mask; mode = t.mode }
+with_secondary address t = record { own = t.own; secondary = Some address; mask = t.mask; mode = t.mode }
 
 abbrev pub with_mask : ℕ → TargetConfig → TargetConfig
-with_mask bits t = record { own = t.own; secondary = t.secondary; mask = Masked bits; mode = t.mode }
+with_mask bits t = record { own = t.own; secondary = t.secondary; mask = Some bits; mode = t.mode }
 
 -- it is that call
 unfoldable pub is_call : Call → Call → Bool
@@ -82,17 +77,17 @@ abbrev pub eventful : Call → Bool
 eventful c = is_kind c WaitForEvent || (is_kind c WaitForTargetRead || (is_kind c WaitForTargetWrite || is_kind c WaitForStop))
 
 -- what a description may have or lack: a configuration, and in it a secondary address
-abbrev pub is_configured : Configuration → Bool
-is_configured Unconfigured = false
-is_configured (Configured t) = true
+abbrev pub is_configured : Option TargetConfig → Bool
+is_configured None = false
+is_configured (Some t) = true
 
-abbrev pub is_secondary : SecondaryAddress → Bool
-is_secondary NoSecondary = false
-is_secondary (Secondary address) = true
+abbrev pub is_secondary : Option ℕ → Bool
+is_secondary None = false
+is_secondary (Some address) = true
 
-abbrev pub has_secondary : Configuration → Bool
-has_secondary Unconfigured = false
-has_secondary (Configured t) = is_secondary t.secondary
+abbrev pub has_secondary : Option TargetConfig → Bool
+has_secondary None = false
+has_secondary (Some t) = is_secondary t.secondary
 
 -- A listed call with all that describes it: the words, the operation list, and the lent buffer's length.
 pub record Request : Type 0 where

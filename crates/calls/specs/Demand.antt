@@ -1,6 +1,6 @@
 -- Demand 3 whole, for the advances As after a begin with the description d, the operations ops and the buffer b: they are one
 -- uncut run, and so what is true of its bytes, counts and events is true of theirs. Assumes nothing.
-use Rattle.std.specs.Prelude.{ℕ, min, ◌≡◌, List, length}
+use Rattle.std.specs.Prelude.{ℕ, min, ◌≡◌, List, length, Result, Ok, Err}
 use Rattle.calls.specs.Advances.{Advance, OneRun, NoRun, made, buffer_after, saved_after}
 use Rattle.calls.specs.Bytes.{BytesOut, BytesIn, Count, Carried, EndedAs}
 use Rattle.calls.specs.Calls.{Request}
@@ -10,8 +10,8 @@ use Rattle.calls.specs.Run.{Entry, Uncut}
 use Rattle.calls.specs.Steps.{begin_of}
 use Rattle.calls.specs.declared.Description.{Description}
 use Rattle.calls.specs.declared.Outcome.TheVariants.{Done}
-use Rattle.calls.specs.declared.Verdict.{Verdict}
-use Rattle.calls.specs.declared.Verdict.TheVariants.{Accepted, Refused}
+use Rattle.calls.specs.declared.Call.{Call}
+use Rattle.calls.specs.declared.Refusal.{Refusal}
 
 -- where the advances leave the call, the buffer and the joined log
 abbrev pub left : Request → List ℕ → List Advance → List Entry → Uncut
@@ -26,6 +26,6 @@ pub record Kept (q : Request) (b : List ℕ) (As : List Advance) : Type 0 where
   pub events : Events q (left q b As one_run.log)
   pub accesses : (saved_after As (begin_of q)).accesses ≡ min (made As) 4294967295
 
-abbrev pub Demand3 : Verdict → Description → List ℕ → List ℕ → List Advance → Type 0
-Demand3 (Accepted c) d ops b As = Kept (request_of c d ops (length b)) b As
-Demand3 (Refused r) d ops b As = NoRun b As
+abbrev pub Demand3 : Result Call Refusal → Description → List ℕ → List ℕ → List Advance → Type 0
+Demand3 (Ok c) d ops b As = Kept (request_of c d ops (length b)) b As
+Demand3 (Err r) d ops b As = NoRun b As

@@ -1,7 +1,7 @@
 -- The refusals of a call and of a saved call: document 01's table, rows 12, 8, 10, 11 and 13 in that order; row 9 went out of
 -- use with document 02, R-1. The first row that fits is given. Words that do not belong to the call are not looked at. Assumes
 -- nothing.
-use Rattle.std.specs.Prelude.{ℕ, ◌+◌, max, Bool, true, false, cond, not, ◌&&◌, ◌||◌, List, [], ◌∷◌, eqb, ltb, leb, length}
+use Rattle.std.specs.Prelude.{ℕ, ◌+◌, max, Bool, true, false, cond, not, ◌&&◌, ◌||◌, List, [], ◌∷◌, eqb, ltb, leb, length, Option, Some, None, Result, Ok, Err}
 use Rattle.fields.specs.Field.{place, get_of}
 use Rattle.calls.specs.Calls.{Request, call_number, is_call, transaction, manual, manual_write, receives, transmits, eventful, is_configured, has_secondary}
 use Rattle.calls.specs.Pieces.{operation_length, pieces_of, most_of, view_at, view_of, byte_there}
@@ -11,23 +11,15 @@ use Rattle.calls.specs.declared.AddressMode.{AddressMode}
 use Rattle.calls.specs.declared.AddressMode.TheVariants.{AddressMode7bit, AddressMode10bit}
 use Rattle.calls.specs.declared.Call.{Call}
 use Rattle.calls.specs.declared.Call.TheVariants.{New, TargetNew, ConfigureTargetAddresses, EnableTargetEvent, DisableTargetEvent, Reset, Transaction, WaitForEvent, Read, Write, WaitForTargetRead, WaitForTargetWrite, WaitForStop, AckTransfer, NackTransfer}
-use Rattle.calls.specs.declared.Configuration.{Configuration}
-use Rattle.calls.specs.declared.Configuration.TheVariants.{Unconfigured, Configured}
 use Rattle.calls.specs.declared.Description.{Description}
-use Rattle.calls.specs.declared.Lookup.{Lookup}
-use Rattle.calls.specs.declared.Lookup.TheVariants.{Listed, Unlisted}
-use Rattle.calls.specs.declared.MaskBits.{MaskBits}
-use Rattle.calls.specs.declared.MaskBits.TheVariants.{Unmasked, Masked}
 use Rattle.calls.specs.declared.Modify.{Modify}
 use Rattle.calls.specs.declared.Modify.TheVariants.{PeOff, PeOn, Listen, NackSet, ReloadOff, SbcOff, ReloadClear, SbcOn, ReloadOn, NbytesSet}
 use Rattle.calls.specs.declared.Refusal.TheVariants.{NoSuchCall, Address, List as BadList, Buffer}
 use Rattle.calls.specs.declared.SavedCall.{SavedCall}
-use Rattle.calls.specs.declared.SecondaryAddress.{SecondaryAddress}
-use Rattle.calls.specs.declared.SecondaryAddress.TheVariants.{NoSecondary, Secondary}
 use Rattle.calls.specs.declared.Step.{Step}
 use Rattle.calls.specs.declared.Step.TheVariants.{Ended, Begin, StartStatus, StartControl, Wait, Byte, StopClear, BusClear, ArbitrationClear, NackClear, FlushTxis, FlushByte, FlushTxe, Flush, Timing, Own, Secondary as SecondaryStep, Enable, Delay1, Delay2, Disabled, Event, EventFlush, EventClear, Address as FindAddress, TransferClear, ModifyRead, ModifyWrite}
-use Rattle.calls.specs.declared.Verdict.{Verdict}
-use Rattle.calls.specs.declared.Verdict.TheVariants.{Accepted, Refused}
+use Rattle.calls.specs.declared.Refusal.{Refusal}
+use Rattle.calls.specs.declared.TargetConfig.{TargetConfig}
 
 -- the listed call of a number
 abbrev pub listed : List Call
@@ -38,11 +30,11 @@ listed =
     ∷ WaitForEvent ManualAck ∷ Read ManualAck ∷ Write ManualAck ∷ WaitForTargetRead ManualAck ∷ WaitForTargetWrite ManualAck ∷ WaitForStop ManualAck
     ∷ []
 
-abbrev pub lookup_in : List Call → ℕ → Lookup
-lookup_in [] n = Unlisted
-lookup_in (c ∷ cs) n = cond (eqb n (call_number c)) (Listed c) (lookup_in cs n)
+abbrev pub lookup_in : List Call → ℕ → Option Call
+lookup_in [] n = None
+lookup_in (c ∷ cs) n = cond (eqb n (call_number c)) (Some c) (lookup_in cs n)
 
-unfoldable pub lookup_of : ℕ → Lookup
+unfoldable pub lookup_of : ℕ → Option Call
 lookup_of n = lookup_in listed n
 
 -- 12, no such call: the number is not listed, calls 4 and 5 name none of the three listen kinds, or 2 and 3 have no
@@ -64,17 +56,17 @@ widest AddressMode10bit = 1023
 abbrev pub too_wide : AddressMode → ℕ → Bool
 too_wide mode address = ltb (widest mode) address
 
-abbrev pub secondary_wide : SecondaryAddress → Bool
-secondary_wide NoSecondary = false
-secondary_wide (Secondary address) = too_wide AddressMode7bit address
+abbrev pub secondary_wide : Option ℕ → Bool
+secondary_wide None = false
+secondary_wide (Some address) = too_wide AddressMode7bit address
 
-abbrev pub mask_wide : MaskBits → Bool
-mask_wide Unmasked = false
-mask_wide (Masked bits) = ltb 6 bits
+abbrev pub mask_wide : Option ℕ → Bool
+mask_wide None = false
+mask_wide (Some bits) = ltb 6 bits
 
-abbrev pub config_wide : Configuration → Bool
-config_wide Unconfigured = false
-config_wide (Configured t) = too_wide t.mode t.own || (secondary_wide t.secondary || mask_wide t.mask)
+abbrev pub config_wide : Option TargetConfig → Bool
+config_wide None = false
+config_wide (Some t) = too_wide t.mode t.own || (secondary_wide t.secondary || mask_wide t.mask)
 
 abbrev pub address_wide : Call → Description → Bool
 address_wide c d =
@@ -103,23 +95,23 @@ list_wrong c ops n = transaction c && (ltb 64 (length ops) || (any_of strange_bi
 abbrev pub buffer_wrong : Call → ℕ → Bool
 buffer_wrong c n = (((receives c || transmits c) && not (manual c)) && eqb n 0) || ltb 65535 n
 
-unfoldable pub verdict_of : Request → Verdict
+unfoldable pub verdict_of : Request → Result Call Refusal
 verdict_of q =
-    cond (no_such_call q.call q.words) (Refused NoSuchCall)
-    (cond (address_wide q.call q.words) (Refused Address)
-    (cond (list_wrong q.call q.operations q.size) (Refused BadList)
-    (cond (buffer_wrong q.call q.size) (Refused Buffer)
-    (Accepted q.call))))
+    cond (no_such_call q.call q.words) (Err NoSuchCall)
+    (cond (address_wide q.call q.words) (Err Address)
+    (cond (list_wrong q.call q.operations q.size) (Err BadList)
+    (cond (buffer_wrong q.call q.size) (Err Buffer)
+    (Ok q.call))))
 
 abbrev pub request_of : Call → Description → List ℕ → ℕ → Request
 request_of c d ops n = record { call = c; words = d; operations = ops; size = n }
 
 -- what begin and advance both look at: description, operation list, the lent buffer's length
-abbrev pub verdict_by : Lookup → Description → List ℕ → ℕ → Verdict
-verdict_by (Listed c) d ops n = verdict_of (request_of c d ops n)
-verdict_by Unlisted d ops n = Refused NoSuchCall
+abbrev pub verdict_by : Option Call → Description → List ℕ → ℕ → Result Call Refusal
+verdict_by (Some c) d ops n = verdict_of (request_of c d ops n)
+verdict_by None d ops n = Err NoSuchCall
 
-unfoldable pub check_of : Description → List ℕ → ℕ → Verdict
+unfoldable pub check_of : Description → List ℕ → ℕ → Result Call Refusal
 check_of d ops n = verdict_by (lookup_of d.call) d ops n
 
 -- ---- 13, saved call: its number is not the described call's; or it has not ended and stands at a step that this call never

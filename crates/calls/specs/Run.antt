@@ -1,6 +1,6 @@
 -- A call that runs: begin, the run that nothing cuts, and one advance (document 01, "A call, from its entry").
 -- Assumes nothing.
-use Rattle.std.specs.Prelude.{ℕ, zero, suc, ◌+◌, ◌/◌, ◌%◌, ◌^◌, Bool, false, cond, not, ◌&&◌, List, [], ◌∷◌, ◌++◌, eqb, length, drop, set}
+use Rattle.std.specs.Prelude.{ℕ, zero, suc, ◌+◌, ◌/◌, ◌%◌, ◌^◌, Bool, false, cond, not, ◌&&◌, List, [], ◌∷◌, ◌++◌, eqb, length, drop, set, Result, Ok, Err}
 use Rattle.registers.specs.Map.{offset_of}
 use Rattle.registers.specs.Places.{ICR_NACKCF}
 use Rattle.registers.specs.declared.Register.{Register}
@@ -18,8 +18,8 @@ use Rattle.calls.specs.declared.Report.{Report}
 use Rattle.calls.specs.declared.Report.TheVariants.{Over, Full, Waiting, Refused}
 use Rattle.calls.specs.declared.SavedCall.{SavedCall}
 use Rattle.calls.specs.declared.Step.TheVariants.{Ended}
-use Rattle.calls.specs.declared.Verdict.{Verdict}
-use Rattle.calls.specs.declared.Verdict.TheVariants.{Accepted, Refused as Rejected}
+use Rattle.calls.specs.declared.Call.{Call}
+use Rattle.calls.specs.declared.Refusal.{Refusal}
 
 -- An entry of the log: the register's offset, plus 0x100 for a write, and the value.
 pub record Entry : Type 0 where
@@ -73,9 +73,9 @@ uncut_of q (suc k) s b l = uncut_turn (uncut_of q k) q s b l (access_of q b s)
 abbrev pub no_call : SavedCall
 no_call = fresh_at 0 Ended
 
-abbrev pub begun_by : Verdict → Description → List ℕ → ℕ → Begun
-begun_by (Accepted c) d ops n = record { saved = begin_of (request_of c d ops n); verdict = Accepted c }
-begun_by (Rejected r) d ops n = record { saved = no_call; verdict = Rejected r }
+abbrev pub begun_by : Result Call Refusal → Description → List ℕ → ℕ → Begun
+begun_by (Ok c) d ops n = record { saved = begin_of (request_of c d ops n); verdict = Ok c }
+begun_by (Err r) d ops n = record { saved = no_call; verdict = Err r }
 
 unfoldable pub begun_of : Description → List ℕ → ℕ → Begun
 begun_of d ops n = begun_by (check_of d ops n) d ops n
@@ -111,9 +111,9 @@ advance_from q zero s b l = stops (cond (same_step s.step Ended) (Over s.outcome
 advance_from q (suc n) s b l = turn_of (advance_from q n) q s b l (access_of q b s)
 
 -- The description is looked at as begin looks at it, then row 13. A refusal changes nothing.
-abbrev pub run_by : Verdict → Description → List ℕ → ℕ → SavedCall → List ℕ → List ℕ → Run
-run_by (Rejected r) d ops n s b l = stops (Refused r) s b
-run_by (Accepted c) d ops n s b l =
+abbrev pub run_by : Result Call Refusal → Description → List ℕ → ℕ → SavedCall → List ℕ → List ℕ → Run
+run_by (Err r) d ops n s b l = stops (Refused r) s b
+run_by (Ok c) d ops n s b l =
     let q : Request = request_of c d ops (length b) in
     cond (accepts q s) (advance_from q n s b l) (stops (Refused BadSavedCall) s b)
 

@@ -1,5 +1,5 @@
 -- A run that came to its end: the call ended, or a read found no answer. Assumes nothing.
-use Rattle.std.specs.Prelude.{ℕ, ◌≤◌, ◌≡◌, List, length, take}
+use Rattle.std.specs.Prelude.{ℕ, ◌≤◌, ◌≡◌, List, length, take, Result, Ok, Err}
 use Rattle.calls.specs.Advances.{answers_in}
 use Rattle.calls.specs.Calls.{Request}
 use Rattle.calls.specs.Next.{next_of}
@@ -13,8 +13,8 @@ use Rattle.calls.specs.declared.Outcome.{Outcome}
 use Rattle.calls.specs.declared.Report.{Report}
 use Rattle.calls.specs.declared.Report.TheVariants.{Over, Full, Waiting, Refused}
 use Rattle.calls.specs.declared.SavedCall.{SavedCall}
-use Rattle.calls.specs.declared.Verdict.{Verdict}
-use Rattle.calls.specs.declared.Verdict.TheVariants.{Accepted, Refused as Rejected}
+use Rattle.calls.specs.declared.Call.{Call}
+use Rattle.calls.specs.declared.Refusal.{Refusal}
 
 -- why a run that has places enough stops before the next access: there is none, or it is a read and has no answer
 abbrev pub stop_at : Outcome → Next → Report
@@ -31,8 +31,8 @@ pub record Whole (q : Request) (s : SavedCall) (b l : List ℕ) (R : Run) : Type
   pub answers : answers_in R.entries ≡ take R.used l
 
 -- from a begin with the description d; after a refused one there is nothing to run
-abbrev pub WholeCall : Verdict → Description → List ℕ → List ℕ → List ℕ → Run → Type 0
-WholeCall (Accepted c) d ops b l R =
+abbrev pub WholeCall : Result Call Refusal → Description → List ℕ → List ℕ → List ℕ → Run → Type 0
+WholeCall (Ok c) d ops b l R =
     let q : Request = request_of c d ops (length b) in
     Whole q (begin_of q) b l R
-WholeCall (Rejected r) d ops b l R = R ≡ stops (Refused r) no_call b
+WholeCall (Err r) d ops b l R = R ≡ stops (Refused r) no_call b

@@ -1,6 +1,6 @@
 -- The words that a call writes into control registers (document 01, "Transaction" and "Leaves"; RM0492 for the fields).
 -- Assumes nothing.
-use Rattle.std.specs.Prelude.{ℕ, ◌*◌, Bool, true, false, cond, eqb}
+use Rattle.std.specs.Prelude.{ℕ, ◌*◌, Bool, true, false, cond, eqb, Option, Some, None}
 use Rattle.fields.specs.Field.{put_of, mark_of}
 use Rattle.registers.specs.Addresses.{seven_bit_own, ten_bit_own, secondary, masked}
 use Rattle.registers.specs.Map.{reset_of}
@@ -13,17 +13,12 @@ use Rattle.calls.specs.Calls.{is_call}
 use Rattle.calls.specs.declared.AddressMode.{AddressMode}
 use Rattle.calls.specs.declared.AddressMode.TheVariants.{AddressMode7bit, AddressMode10bit}
 use Rattle.calls.specs.declared.Call.{Call}
-use Rattle.calls.specs.declared.Configuration.{Configuration}
-use Rattle.calls.specs.declared.Configuration.TheVariants.{Unconfigured, Configured}
 use Rattle.calls.specs.declared.Description.{Description}
-use Rattle.calls.specs.declared.MaskBits.{MaskBits}
-use Rattle.calls.specs.declared.MaskBits.TheVariants.{Unmasked, Masked}
 use Rattle.calls.specs.declared.Modify.{Modify}
 use Rattle.calls.specs.declared.Modify.TheVariants.{PeOff, PeOn, Listen, NackSet, ReloadOff, SbcOff, ReloadClear, SbcOn, ReloadOn, NbytesSet}
-use Rattle.calls.specs.declared.SecondaryAddress.{SecondaryAddress}
-use Rattle.calls.specs.declared.SecondaryAddress.TheVariants.{NoSecondary, Secondary}
 use Rattle.calls.specs.declared.View.{View}
 use Rattle.calls.specs.declared.Call.TheVariants.{TargetNew, EnableTargetEvent}
+use Rattle.calls.specs.declared.TargetConfig.{TargetConfig}
 
 -- CR2, once per operation: its length and direction, and how it ends: the last by AUTOEND, one before another of its
 -- direction by RELOAD, else by a repeated start, which takes neither.
@@ -57,18 +52,18 @@ abbrev pub own_word : AddressMode → ℕ → ℕ
 own_word AddressMode7bit own = seven_bit_own own
 own_word AddressMode10bit own = ten_bit_own own
 
-abbrev pub secondary_word : SecondaryAddress → MaskBits → ℕ
-secondary_word NoSecondary m = reset_of Oar2
-secondary_word (Secondary address) Unmasked = secondary address
-secondary_word (Secondary address) (Masked bits) = masked address bits
+abbrev pub secondary_word : Option ℕ → Option ℕ → ℕ
+secondary_word None m = reset_of Oar2
+secondary_word (Some address) None = secondary address
+secondary_word (Some address) (Some bits) = masked address bits
 
-unfoldable pub oar1_of : Configuration → ℕ
-oar1_of Unconfigured = reset_of Oar1
-oar1_of (Configured t) = own_word t.mode t.own
+unfoldable pub oar1_of : Option TargetConfig → ℕ
+oar1_of None = reset_of Oar1
+oar1_of (Some t) = own_word t.mode t.own
 
-unfoldable pub oar2_of : Configuration → ℕ
-oar2_of Unconfigured = reset_of Oar2
-oar2_of (Configured t) = secondary_word t.secondary t.mask
+unfoldable pub oar2_of : Option TargetConfig → ℕ
+oar2_of None = reset_of Oar2
+oar2_of (Some t) = secondary_word t.secondary t.mask
 
 -- The register of a modify. Listening is enabled in CR1 for the general call, in OAR1 for the primary address, in OAR2 for
 -- the secondary one.

@@ -8,8 +8,10 @@ ghost use Rattle.calls.specs.Calls.{config_of, with_own, with_mode, with_seconda
 use registers::Register;
 use timing::RawTimingr;
 
+mod numbers;
+
 // The listed calls, by the names of the Rust's functions.
-#[derive(Clone, Copy)]
+#[derive(Clone, Copy, Debug, PartialEq, Eq)]
 pub enum Call {
     New,
     TargetNew,
@@ -29,37 +31,24 @@ pub enum Call {
 }
 
 // Who acknowledges received bytes: the peripheral, or the caller at the end of a transfer.
-#[derive(Clone, Copy)]
+#[derive(Clone, Copy, Debug, PartialEq, Eq)]
 pub enum Ack {
     AutoAck,
     ManualAck,
 }
 
-#[derive(Clone, Copy)]
+#[derive(Clone, Copy, Debug, PartialEq, Eq)]
 pub enum AddressMode {
     AddressMode7bit,
     AddressMode10bit,
 }
 
-// A target's second address, of seven bits, and how many of its low bits are not compared: each may be absent.
-#[derive(Clone, Copy)]
-pub enum SecondaryAddress {
-    NoSecondary,
-    Secondary(u32),
-}
-
-#[derive(Clone, Copy)]
-pub enum MaskBits {
-    Unmasked,
-    Masked(u32),
-}
-
 // A target's addresses. They hold any word, so that every one that does not fit can be refused.
-#[derive(Clone, Copy)]
+#[derive(Clone, Copy, Debug, PartialEq, Eq)]
 pub struct TargetConfig {
     pub own: u32,
-    pub secondary: SecondaryAddress,
-    pub mask: MaskBits,
+    pub secondary: Option<u32>,
+    pub mask: Option<u32>,
     pub mode: AddressMode,
 }
 
@@ -69,8 +58,8 @@ impl TargetConfig {
     {
         TargetConfig {
             own,
-            secondary: SecondaryAddress::NoSecondary,
-            mask: MaskBits::Unmasked,
+            secondary: None,
+            mask: None,
             mode: AddressMode::AddressMode7bit,
         }
     }
@@ -85,17 +74,15 @@ impl TargetConfig {
     pub fn own_address_mode(mut self, mode: AddressMode) -> TargetConfig
         ensures { result ≡ with_mode mode self }
     {
-        self = TargetConfig { mode, ..self };
+        self.mode = mode;
         self
     }
 
+    // By hand: two fields, and the Rust has a setter of each name.
     pub fn secondary_address(mut self, address: u32) -> TargetConfig
         ensures { result ≡ with_secondary address self }
     {
-        self = TargetConfig {
-            secondary: SecondaryAddress::Secondary(address),
-            ..self
-        };
+        self.secondary = Some(address);
         self
     }
 
@@ -103,36 +90,27 @@ impl TargetConfig {
     pub fn secondary_address_mask_bits(mut self, bits: u32) -> TargetConfig
         ensures { result ≡ with_mask bits self }
     {
-        self = TargetConfig {
-            mask: MaskBits::Masked(bits),
-            ..self
-        };
+        self.mask = Some(bits);
         self
     }
-}
-
-// A configuration, or none: call 1 may go without.
-#[derive(Clone, Copy)]
-pub enum Configuration {
-    Unconfigured,
-    Configured(TargetConfig),
 }
 
 // What is asked of the driver. The operation list and the buffer are lent beside it. A call looks only at the words
 // that belong to it: the address and its mode at 7, the listen kind at 4 and 5, the timing at 1 and 2, the configuration at
 // 1 to 3.
-#[derive(Clone, Copy)]
+// By hand: the call and the listen kind stay C's numbers, so that one which names nothing can be refused (row 12).
+#[derive(Clone, Copy, Debug, PartialEq, Eq)]
 pub struct Description {
     pub call: u32,
     pub address: u32,
     pub listen: u32,
     pub timing: RawTimingr,
-    pub config: Configuration,
+    pub config: Option<TargetConfig>,
     pub mode: AddressMode,
 }
 
 // Why a call is refused.
-#[derive(Clone, Copy)]
+#[derive(Clone, Copy, Debug, PartialEq, Eq)]
 pub enum Refusal {
     Address,
     List,
@@ -142,7 +120,7 @@ pub enum Refusal {
 }
 
 // What comes of a call.
-#[derive(Clone, Copy)]
+#[derive(Clone, Copy, Debug, PartialEq, Eq)]
 pub enum Outcome {
     Done(u32),
     Bus,
@@ -157,7 +135,7 @@ pub enum Outcome {
 }
 
 // The register writes that keep most of what was read: a read, then a write with some fields replaced.
-#[derive(Clone, Copy)]
+#[derive(Clone, Copy, Debug, PartialEq, Eq)]
 pub enum Modify {
     PeOff,
     PeOn,
@@ -172,7 +150,7 @@ pub enum Modify {
 }
 
 // One register access each.
-#[derive(Clone, Copy)]
+#[derive(Clone, Copy, Debug, PartialEq, Eq)]
 pub enum Step {
     Ended,
     Begin,
@@ -207,7 +185,8 @@ pub enum Step {
 // A call between two advances. `piece` is the operation of a transaction or the block of a target transfer, `byte` the byte
 // within it, `out` the bytes that a manual write has put out, `word` what the running modify read; before the end `outcome` is
 // what is on its way.
-#[derive(Clone, Copy)]
+// By hand: the call stays a number, since the saved bytes can hold any and row 13 compares it.
+#[derive(Clone, Copy, Debug, PartialEq, Eq)]
 pub struct SavedCall {
     pub call: u32,
     pub piece: u32,
@@ -222,7 +201,7 @@ pub struct SavedCall {
 // What a step sees of the running piece: its place in the buffer, its length and direction, whether it is the last, whether
 // the next piece goes the same way and whether the one before it did, and whether the call has any piece; and `most`, the number
 // at which the call's `out` is held.
-#[derive(Clone, Copy)]
+#[derive(Clone, Copy, Debug, PartialEq, Eq)]
 pub struct View {
     pub start: u32,
     pub size: u32,
@@ -235,7 +214,8 @@ pub struct View {
 }
 
 // The next access. `Take` reads RXDR, and its low eight bits go to that place of the buffer.
-#[derive(Clone, Copy)]
+// By hand: a step does one of four things. As an Option, three of them would stand in a `Some` at each match.
+#[derive(Clone, Copy, Debug, PartialEq, Eq)]
 pub enum Access {
     Read(Register),
     Take(usize),
@@ -244,7 +224,8 @@ pub enum Access {
 }
 
 // The flag of ISR that a wait awaits.
-#[derive(Clone, Copy)]
+// By hand: as in `Access`: a wait that awaits no flag has an arm of its own.
+#[derive(Clone, Copy, Debug, PartialEq, Eq)]
 pub enum Flag {
     Rxne,
     Txis,
@@ -255,7 +236,7 @@ pub enum Flag {
 }
 
 // What an answer leads to.
-#[derive(Clone, Copy)]
+#[derive(Clone, Copy, Debug, PartialEq, Eq)]
 pub enum Effect {
     Goes(Step),
     Loads(Step),
@@ -268,7 +249,8 @@ pub enum Effect {
 
 // How an advance comes out: the call is over, the log is full, a read of that register waits for its answer, or the advance
 // is refused.
-#[derive(Clone, Copy)]
+// By hand: a refusal is one of the reports that C numbers, so this is no Result.
+#[derive(Clone, Copy, Debug, PartialEq, Eq)]
 pub enum Report {
     Over(Outcome),
     Full,
@@ -276,27 +258,15 @@ pub enum Report {
     Refused(Refusal),
 }
 
-// What is found of a call number, and of a description.
-#[derive(Clone, Copy)]
-pub enum Lookup {
-    Listed(Call),
-    Unlisted,
-}
-
-#[derive(Clone, Copy)]
-pub enum Verdict {
-    Accepted(Call),
-    Refused(Refusal),
-}
-
 // What begin returns. A refused call's saved call has number 0, which no advance takes.
-#[derive(Clone, Copy)]
+// By hand: no Result with the saved call in its Ok, since C gets a saved call either way.
+#[derive(Clone, Copy, Debug, PartialEq, Eq)]
 pub struct Begun {
     pub saved: SavedCall,
-    pub verdict: Verdict,
+    pub verdict: Result<Call, Refusal>,
 }
 
-#[derive(Clone, Copy)]
+#[derive(Clone, Copy, Debug, PartialEq, Eq)]
 pub struct Advanced {
     pub used: usize,
     pub written: usize,
@@ -306,7 +276,8 @@ pub struct Advanced {
 
 // The next access of a saved call: the register that it goes to, read or written; or there is none, since the call is over
 // or refused.
-#[derive(Clone, Copy)]
+// By hand: C numbers the four alike, so this is no Result either.
+#[derive(Clone, Copy, Debug, PartialEq, Eq)]
 pub enum Next {
     Over,
     Read(Register),

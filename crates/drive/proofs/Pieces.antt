@@ -1,7 +1,7 @@
 -- What follows a piece is the rest of the run. Assumes nothing.
-use Prim.Native.Nat.{ℕ, ◌+◌, ◌-◌, ◌*◌, ◌≤◌, ◌<◌}
+use Prim.Native.Nat.{ℕ, ◌+◌, ◌-◌, ◌*◌, ◌≤◌}
 use native.Mathlib.Omega.{arith}
-use mathlib.Core.Path.{◌≡◌, refl, sym, ap, ◌∙◌}
+use mathlib.Core.Path.{◌≡◌, refl, sym}
 use mathlib.Core.Bool.{true, false}
 use mathlib.Core.List.{List, [], ◌∷◌, ◌++◌, append_assoc}
 use lib.ListN.{length, take, drop, length-drop}
@@ -37,13 +37,13 @@ in_lines_holds : (form : Form) (w : ℕ) (L : Laid) (es fs : List Entry) →
     in_lines form (w + length es) (words_of fs) (in_lines form w (words_of es) L) ≡ in_lines form w (words_of es ++ words_of fs) L
 in_lines_holds form w L es fs = rw (log_append form (w + 1) (w + length es + 1) es (words_of fs) (omega arith), emit_append (log_text form (w + 1) (words_of es)) (log_text form (w + length es + 1) (words_of fs)) L)
 
--- ---- the loop: a piece was made, n being left before it
-module _ (form : Form) (d : Description) (ops l : List ℕ) (n : ℕ) (F G : Reached Laid) (E : G ≡ go_on (in_lines form) d ops l 512 F) (some : 0 < n) where
+-- ---- the loop: a piece was made, n being left before it and m after it
+module _ (form : Form) (d : Description) (ops l : List ℕ) (n m : ℕ) (F G : Reached Laid) (E : G ≡ go_on (in_lines form) d ops l 512 F) (one : n ≡ m + 1) where
   pub turn_used : F.advanced.used ≤ length l → G.advanced.used ≤ length l
   turn_used = come.used_in (in_lines form) d ops l F 512 (512 * n) (omega arith) G E
 
   pub turn_written : is_full G.advanced.report ≡ true → F.advanced.written + 512 * n ≤ 131072 →
-      G.advanced.written + 512 * (n - 1) ≤ 131072
+      G.advanced.written + 512 * m ≤ 131072
   turn_written f h = omega (arith, come.all_written (in_lines form) d ops l F 512 (512 * n) (omega arith) G E f)
 
   module _ (W : Reached Laid) (full : is_full F.advanced.report ≡ true) (rest : rest_from (in_lines form) d ops l (512 * n) F ≡ W) where
@@ -53,7 +53,7 @@ module _ (form : Form) (d : Description) (ops l : List ℕ) (n : ℕ) (F G : Rea
     pub turn_ends : is_full G.advanced.report ≡ false → G ≡ W
     turn_ends = come.ends_here (in_lines form) d ops l F 512 (512 * n) (omega arith) G E W whole
 
-    pub turn_goes : is_full G.advanced.report ≡ true → rest_from (in_lines form) d ops l (512 * (n - 1)) G ≡ W
+    pub turn_goes : is_full G.advanced.report ≡ true → rest_from (in_lines form) d ops l (512 * m) G ≡ W
     turn_goes f =
         come.goes_on (in_lines form) d ops l F 512 (512 * n) (omega arith) G E W whole
-        (λ es fs h. in_lines_holds form F.advanced.written F.out es fs) f (512 * (n - 1)) (omega arith)
+        (λ es fs h. in_lines_holds form F.advanced.written F.out es fs) f (512 * m) (omega arith)

@@ -17,6 +17,14 @@ const LOG: usize = 1024;
 
 const PIECES: usize = 256;
 
+// What is driven: a call's description, its operations and the answers that it gets.
+#[derive(Clone, Copy)]
+pub struct Job<'a> {
+    pub description: Description,
+    pub operations: &'a [u32],
+    pub answers: &'a [u32],
+}
+
 // How far a call has come: where its text stands, and what its advances gave.
 #[derive(Clone, Copy)]
 pub struct Driven {
@@ -24,58 +32,43 @@ pub struct Driven {
     pub advanced: Advanced,
 }
 
-fn log() -> [u32; LOG]
-    ensures { length result ≡ 1024 }
-{
-    [0; LOG]
-}
-
 // One advance more, over 512 places, and the text of its accesses, which are numbered on.
-fn piece(
-    t: Driven,
-    form: Form,
-    d: Description,
-    ops: &[u32],
-    buffer: &mut [u8],
-    answers: &[u32],
-    out: &mut [u8],
-) -> Driven
-    requires { (t.advanced.used ≤ length answers.now) × (t.advanced.written ≤ 131072) }
-    ensures { as_driven result buffer.new out.new ≡ go_on (in_lines form) d ops.now answers.now 512 (as_driven t buffer.old out.old) }
+// By hand: `advance_bytes` sums two advances like this too, and the pieces differ in all else.
+fn piece(t: Driven, form: Form, job: Job, buffer: &mut [u8], out: &mut [u8]) -> Driven
+    requires { (t.advanced.used ≤ length job.answers.now) × (t.advanced.written ≤ 131072) }
+    ensures { as_driven result buffer.new out.new ≡ go_on (in_lines form) job.entry.description job.entry.operations.now job.entry.answers.now 512 (as_driven t buffer.old out.old) }
 {
-    let mut log = log();
-    let place = t.place;
+    // By hand: fixed memory, so that a run's log comes in pieces.
+    let mut log = [0; LOG];
     let far = t.advanced;
-    let used = far.used;
-    let saved = far.saved;
-    let a = in_place::advance(d, ops, saved, buffer, &answers[used..], &mut log);
-    let words = 2 * a.written;
+    let a = in_place::advance(
+        job.description,
+        job.operations,
+        far.saved,
+        buffer,
+        &job.answers[far.used..],
+        &mut log,
+    );
     let first = (far.written + 1) as u32;
-    let next = a.saved;
-    let report = a.report;
-    let advanced = Advanced {
-        used: used + a.used,
-        written: far.written + a.written,
-        saved: next,
-        report,
-    };
     Driven {
-        place: lines::put_log(place, form, first, &log[..words], out),
-        advanced,
+        place: lines::put_log(t.place, form, first, &log[..2 * a.written], out),
+        advanced: Advanced {
+            used: far.used + a.used,
+            written: far.written + a.written,
+            ..a
+        },
     }
 }
 
 fn run(
     p: Cursor,
     form: Form,
-    d: Description,
-    ops: &[u32],
+    job: Job,
     saved: SavedCall,
     buffer: &mut [u8],
-    answers: &[u32],
     out: &mut [u8],
 ) -> Driven
-    ensures { as_driven result buffer.new out.new ≡ reached_by (in_lines form) (run_of d ops.now places saved buffer.old answers.now) (laid p out.old) }
+    ensures { as_driven result buffer.new out.new ≡ reached_by (in_lines form) (run_of job.entry.description job.entry.operations.now places saved buffer.old job.entry.answers.now) (laid p out.old) }
 {
     let advanced = Advanced {
         used: 0,
@@ -84,32 +77,19 @@ fn run(
         report: Report::Full,
     };
     let mut t = Driven { place: p, advanced };
-    let mut left = PIECES;
-    while 0 < left {
-        t = piece(t, form, d, ops, buffer, answers, out);
-        left -= 1;
-        let far = t.advanced;
-        let report = far.report;
-        if !report::is_full(report) {
-            return t;
+    for _ in 0..PIECES {
+        t = piece(t, form, job, buffer, out);
+        if !report::is_full(t.advanced.report) {
+            break;
         }
     }
     t
 }
 
 // Drives a call from its beginning; its accesses are put into the window, in one of the two forms.
-pub fn drive(
-    p: Cursor,
-    form: Form,
-    d: Description,
-    ops: &[u32],
-    buffer: &mut [u8],
-    answers: &[u32],
-    out: &mut [u8],
-) -> Driven
-    ensures { as_driven result buffer.new out.new ≡ reached_by (in_lines form) (run_for d ops.now buffer.old answers.now) (laid p out.old) }
+pub fn drive(p: Cursor, form: Form, job: Job, buffer: &mut [u8], out: &mut [u8]) -> Driven
+    ensures { as_driven result buffer.new out.new ≡ reached_by (in_lines form) (run_for job.entry.description job.entry.operations.now buffer.old job.entry.answers.now) (laid p out.old) }
 {
-    let begun = driver::begin(d, ops, buffer);
-    let saved = begun.saved;
-    run(p, form, d, ops, saved, buffer, answers, out)
+    let begun = driver::begin(job.description, job.operations, buffer);
+    run(p, form, job, begun.saved, buffer, out)
 }

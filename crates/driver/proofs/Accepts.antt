@@ -1,5 +1,6 @@
 -- Row 13 as the code goes through it, and that a saved call which it takes has small numbers, unless it has ended.
 -- Assumes nothing.
+use Rattle.std.specs.Prelude.{Option, Some, None, Result, Ok, Err, cond}
 use Prim.Native.Nat.{ℕ, ◌≤◌, max}
 use native.Mathlib.Omega.{arith}
 use mathlib.Core.Path.{◌≡◌, refl, ◌∙◌, subst⁻¹}
@@ -15,12 +16,15 @@ use Rattle.calls.specs.Refusals.{request_of, takes, accepts}
 use Rattle.calls.specs.Steps.{same_step}
 use Rattle.calls.specs.declared.Call.{Call}
 use Rattle.calls.specs.declared.Description.{Description}
+use Rattle.calls.specs.declared.Refusal.{Refusal}
+use Rattle.calls.specs.declared.Refusal.TheVariants.{SavedCall as BadSavedCall}
 use Rattle.calls.specs.declared.SavedCall.{SavedCall}
 use Rattle.calls.specs.declared.Step.TheVariants.{Ended}
 use Rattle.driver.proofs.Pieces.{inside, few_pieces}
 use Rattle.calls.proofs.Fit.{Fit}
 use Rattle.steps.specs.Bounds.{Small}
-use Rattle.driver.specs.Views.{belongs, at_byte, stands_in}
+use Rattle.driver.specs.Views.{cursor_at, belongs, at_byte, stands_in, standing}
+use Rattle.driver.specs.declared.view.Cursor.{Cursor}
 
 module _ (c : Call) (d : Description) (ops : List ℕ) (n : ℕ) (s : SavedCall) (f : Fit c ops n) where
   abbrev q : Request
@@ -66,3 +70,40 @@ module _ (c : Call) (d : Description) (ops : List ℕ) (n : ℕ) (s : SavedCall)
   -- what the loop of an advance goes by: its numbers are small
   pub known_small : Known q s → Small s × ((view_of q s).size ≤ 65535)
   known_small k = omega (arith, k.piece, k.byte, few_pieces c ops n f, inside c ops n f s.piece, f.size)
+
+-- ---- What the answer of row 13 says
+
+pub record Stands (c : Call) (d : Description) (ops : List ℕ) (n : ℕ) (s : SavedCall) (p : Cursor) : Type 0 where
+  pub accepted : accepts (request_of c d ops n) s ≡ true
+  pub going : same_step s.step Ended ≡ false
+  pub at : p ≡ cursor_at c ops n s.piece
+
+module _ (c : Call) (d : Description) (ops : List ℕ) (n : ℕ) (s : SavedCall) where
+  abbrev answer : Bool → Bool → Result (Option Cursor) Refusal
+  answer a e = cond a (Ok (cond e None (Some (cursor_at c ops n s.piece)))) (Err BadSavedCall)
+
+  pub stands : (p : Cursor) → standing c d ops n s ≡ Ok (Some p) → Stands c d ops n s p
+  stands p = go (accepts (request_of c d ops n) s) (same_step s.step Ended) refl refl
+    where
+      go : (a e : Bool) → accepts (request_of c d ops n) s ≡ a → same_step s.step Ended ≡ e → answer a e ≡ Ok (Some p) → Stands c d ops n s p
+      go true false x y h = record { accepted = x; going = y; at = cc }
+      go true true x y h = cc
+      go false e x y h = cc
+
+  pub over : standing c d ops n s ≡ Ok None → (accepts (request_of c d ops n) s ≡ true) × (same_step s.step Ended ≡ true)
+  over = go (accepts (request_of c d ops n) s) (same_step s.step Ended) refl refl
+    where
+      go : (a e : Bool) → accepts (request_of c d ops n) s ≡ a → same_step s.step Ended ≡ e → answer a e ≡ Ok None →
+          (accepts (request_of c d ops n) s ≡ true) × (same_step s.step Ended ≡ true)
+      go true true x y h = (x, y)
+      go true false x y h = cc
+      go false e x y h = cc
+
+  pub refused : (why : Refusal) → standing c d ops n s ≡ Err why → (accepts (request_of c d ops n) s ≡ false) × (why ≡ BadSavedCall)
+  refused why = go (accepts (request_of c d ops n) s) (same_step s.step Ended) refl
+    where
+      go : (a e : Bool) → accepts (request_of c d ops n) s ≡ a → answer a e ≡ Err why →
+          (accepts (request_of c d ops n) s ≡ false) × (why ≡ BadSavedCall)
+      go false e x h = (x, cc)
+      go true true x h = cc
+      go true false x h = cc

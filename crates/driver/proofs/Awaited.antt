@@ -1,4 +1,5 @@
 -- A report that says `waiting` names the register that the next access reads. Assumes nothing.
+use Rattle.std.specs.Prelude.{Ok}
 use Prim.Native.Nat.{ℕ}
 use native.Mathlib.Omega.{arith}
 use mathlib.Core.Path.{◌≡◌, ◌∙◌}
@@ -19,10 +20,9 @@ use Rattle.calls.specs.declared.Description.{Description}
 use Rattle.calls.specs.declared.Next.TheVariants as next
 use Rattle.calls.specs.declared.Report.TheVariants.{Waiting}
 use Rattle.calls.specs.declared.SavedCall.{SavedCall}
-use Rattle.calls.specs.declared.Verdict.TheVariants.{Accepted}
 use Rattle.driver.specs.Next.{next_for}
 
-next-is : (c : Call) (d : Description) (ops : List ℕ) (s : SavedCall) (b : List ℕ) → check_of d ops (length b) ≡ Accepted c →
+next-is : (c : Call) (d : Description) (ops : List ℕ) (s : SavedCall) (b : List ℕ) → check_of d ops (length b) ≡ Ok c →
     T (accepts (request_of c d ops (length b)) s) → next_for d ops s b ≡ next_of (access_of (request_of c d ops (length b)) b s)
 next-is c d ops s b e h = rw (e, is_true (accepts (request_of c d ops (length b)) s) h)
 
@@ -30,7 +30,7 @@ module _ (d : Description) (ops : List ℕ) (n : ℕ) (s : SavedCall) (b l : Lis
   abbrev Awaits : Run → Type 0
   Awaits R = R.report ≡ Waiting r → next_for d ops R.saved R.buffer ≡ next.Read r
 
-  came : (c : Call) (S : Run) → check_of d ops (length b) ≡ Accepted c → Part (request_of c d ops (length b)) n s b l S →
+  came : (c : Call) (S : Run) → check_of d ops (length b) ≡ Ok c → Part (request_of c d ops (length b)) n s b l S →
       T (accepts (request_of c d ops (length b)) S.saved) → RunCame (request_of c d ops (length b)) n l S → Awaits S
   came c S e p k (over' x f) h = let z : ◌≡◌ {A = ℕ} 0 1 = cc in absurd (omega arith)
   came c S e p k (full' x w f) h = let z : ◌≡◌ {A = ℕ} 0 1 = cc in absurd (omega arith)

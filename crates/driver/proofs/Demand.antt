@@ -1,5 +1,6 @@
 -- Demand 3 holds of the driver's functions: of every call of `begin` and every list of calls of `advance` that came back, by
 -- their contracts. `driver_demand_3` is the theorem. Assumes nothing.
+use Rattle.std.specs.Prelude.{Result, Ok, Err}
 use Prim.Native.Nat.{ℕ}
 use mathlib.Core.Path.{◌≡◌, refl, ap, ◌∙◌, subst, subst⁻¹}
 use mathlib.Core.List.{List, [], ◌∷◌, map}
@@ -13,14 +14,14 @@ use Rattle.calls.specs.Run.{begun_by, begun_of}
 use Rattle.calls.specs.declared.Begun.{Begun}
 use Rattle.calls.specs.declared.Description.{Description}
 use Rattle.calls.specs.declared.SavedCall.{SavedCall}
-use Rattle.calls.specs.declared.Verdict.{Verdict}
-use Rattle.calls.specs.declared.Verdict.TheVariants.{Accepted, Refused}
 use Rattle.driver.specs.Demand.{Beginning, Advancing, InTurn, After, DriverDemand3}
 use Rattle.driver.proofs.CameBack.{CameBack}
 use Rattle.driver.specs.contracts.advance as advance
 use Rattle.driver.proofs.advance.Reads as advance-reads
 use Rattle.driver.specs.contracts.begin as begin
 use Rattle.driver.proofs.begin.Reads as begin-reads
+use Rattle.calls.specs.declared.Call.{Call}
+use Rattle.calls.specs.declared.Refusal.{Refusal}
 
 -- ---- the list
 abbrev advances : List Advancing → List Advance
@@ -41,9 +42,9 @@ verdict-is : (d : Description) (ops : List ℕ) (n : ℕ) → (begun_of d ops n)
 unfolding begun_of
 verdict-is d ops n = go (check_of d ops n)
   where
-    go : (v : Verdict) → (begun_by v d ops n).verdict ≡ v
-    go (Accepted c) = refl
-    go (Refused r) = refl
+    go : (v : Result Call Refusal) → (begun_by v d ops n).verdict ≡ v
+    go (Ok c) = refl
+    go (Err r) = refl
 
 -- of any functions that meet the contracts of `begin` and `advance`
 pub demand : (B : Beginning) (Cs : List Advancing) → After B Cs → DriverDemand3 B Cs
@@ -51,7 +52,7 @@ demand B Cs h =
     let d : Description = B.description in
     let ops : List ℕ = B.operations in
     let b : List ℕ = B.buffer in
-    subst⁻¹ (λ (v : Verdict). Demand3 v d ops b (advances Cs))
+    subst⁻¹ (λ (v : Result Call Refusal). Demand3 v d ops b (advances Cs))
     (ap (λ (g : Begun). g.verdict) B.contract ∙ verdict-is d ops (length b))
     (demand_3 d ops b (advances Cs)
     (subst (λ (g : Begun). Follows d ops (advances Cs) g.saved b) B.contract (follows d ops Cs B.begun.saved b h)))

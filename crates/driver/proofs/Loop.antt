@@ -1,11 +1,12 @@
 -- One turn of the loop of advance is one access of the definition: what is still to come, put after what was done, is the
 -- whole advance. Assumes nothing.
+use Rattle.std.specs.Prelude.{Option, Some, None, Result, Ok, Err}
 use Prim.Native.Nat.{ℕ, zero, suc, ◌+◌, ◌-◌, ◌*◌, ◌/◌, ◌<◌, ◌≤◌}
 use native.Mathlib.Nat.{add-zero, zero-add, sub-zero}
 use native.Mathlib.Numerals.{add-one}
 use native.Mathlib.Omega.{arith}
 use mathlib.Core.Path.{◌≡◌, refl, sym, ap, ◌∙◌, subst⁻¹}
-use mathlib.Core.Bool.{Bool, true, false, cond, ◌&&◌}
+use mathlib.Core.Bool.{Bool, true, false, cond}
 use mathlib.Core.List.{List, [], ◌∷◌}
 use lib.Dec.{T, ltb}
 use lib.ListN.{length, get_or, set, drop, drop_of_length-le}
@@ -18,7 +19,7 @@ use Rattle.calls.proofs.Cut.{two_each}
 use Rattle.calls.proofs.Logic.{both, is_true}
 use Rattle.calls.specs.Calls.{Request}
 use Rattle.calls.specs.Pieces.{view_of}
-use Rattle.calls.specs.Run.{Entry, words_of, read_entry, write_entry, byte_of, Run, stops, turn_of, advance_from, Final, final_by, as_final}
+use Rattle.calls.specs.Run.{Entry, words_of, read_entry, write_entry, byte_of, Run, stops, turn_of as run_turn, advance_from, Final, final_by, as_final}
 use Rattle.calls.specs.Steps.{access_of, after_in, after_of, same_step}
 use Rattle.calls.specs.declared.Access.{Access}
 use Rattle.calls.specs.declared.Access.TheVariants.{Read, Take, Write, Nothing}
@@ -29,9 +30,9 @@ use Rattle.calls.specs.declared.Report.TheVariants.{Over, Full}
 use Rattle.calls.specs.declared.SavedCall.{SavedCall}
 use Rattle.calls.specs.declared.Step.TheVariants.{Ended}
 use Rattle.calls.specs.declared.View.{View}
-use Rattle.driver.specs.Turn.{AttemptLeft, as_made, made_by, made_of, TurnLeft, as_turn, turn_by, turn_left as turnIn, passed, moved_by, quick_turned, Quickly}
+use Rattle.driver.specs.Turn.{Left, left, made_by, made_of, turned, after_made, turn_by, turn_of, moved_by, Quickly}
 use Rattle.driver.specs.declared.quick.Quick.{Quick}
-use Rattle.driver.specs.declared.run.Attempt.{Attempt}
+use Rattle.driver.specs.declared.run.Made.{Made}
 use Rattle.driver.specs.declared.run.Turned.{Turned}
 
 -- the run R after u answers and w entries, its words in the log from `at` on
@@ -50,7 +51,7 @@ to_come q l p b log s u w = finish log (2 * w) u w (advance_from q (p - w) s b (
 -- an advance makes no more entries than it has places
 within_turn : (q : Request) (n : ℕ) (s : SavedCall) (b : List ℕ) →
     ((s : SavedCall) (b l : List ℕ) → length (advance_from q n s b l).entries ≤ n) →
-    (l : List ℕ) (x : Access) → length (turn_of (advance_from q n) q s b l x).entries ≤ suc n
+    (l : List ℕ) (x : Access) → length (run_turn (advance_from q n) q s b l x).entries ≤ suc n
 within_turn q n s b ih l Nothing = omega arith
 within_turn q n s b ih l (Write r v) = omega (arith, ih (after_of q s 0) b l)
 within_turn q n s b ih [] (Read r) = omega arith
@@ -80,22 +81,23 @@ more log at u u' w e k R m =
     let n : w + 1 + length R.entries ≡ w + suc (length R.entries) = omega arith in
     rw (p, q, n, m)
 
-abbrev as_end : ℕ → TurnLeft → Final
-as_end w t =
-    record { advanced = record { used = t.used; written = w; saved = t.saved; report = t.report }; buffer = t.buffer; log = t.log }
+-- what comes of a turn: an access was made, and more is to come, or the advance ends
+abbrev follows : Request → List ℕ → SavedCall → ℕ → ℕ → ℕ → ℕ → Result Turned Report → List ℕ → List ℕ → Final
+follows q l s u at w n (Ok t) b log = finish log (at + 2) t.used (w + 1) (advance_from q n t.saved b (drop t.used l))
+follows q l s u at w n (Err r) b log =
+    record { advanced = record { used = u; written = w; saved = s; report = r }; buffer = b; log = log }
 
-abbrev Steps : Request → List ℕ → SavedCall → List ℕ → ℕ → List ℕ → ℕ → ℕ → ℕ → TurnLeft → Type 0
+abbrev Steps : Request → List ℕ → SavedCall → List ℕ → ℕ → List ℕ → ℕ → ℕ → ℕ → Left Turned → Type 0
 Steps q l s b u log at w n t =
-    finish log at u w (advance_from q (suc n) s b (drop u l)) ≡
-    cond t.going (finish t.log (at + 2) t.used (w + 1) (advance_from q n t.saved t.buffer (drop t.used l))) (as_end w t)
+    finish log at u w (advance_from q (suc n) s b (drop u l)) ≡ follows q l s u at w n t.came t.buffer t.log
 
 module _ (q : Request) (l : List ℕ) (s : SavedCall) (b : List ℕ) (u : ℕ) (log : List ℕ) (at w n : ℕ) where
-  abbrev made_in : Access → TurnLeft
+  abbrev made_in : Access → Left Turned
   made_in x = turn_by q.call q.words (view_of q s) s (made_by s b l u log at x)
 
   -- the answer that is left, and what follows it
-  left : ltb u (length l) ≡ true → drop u l ≡ get_or l u 0 ∷ drop (u + 1) l
-  left e = rw add-one (drop-cons l u 0 (ltb-true u (length l) e))
+  some_left : ltb u (length l) ≡ true → drop u l ≡ get_or l u 0 ∷ drop (u + 1) l
+  some_left e = rw add-one (drop-cons l u 0 (ltb-true u (length l) e))
 
   none_left : ltb u (length l) ≡ false → drop u l ≡ []
   none_left e = drop_of_length-le l (ltb-false u (length l) e)
@@ -105,28 +107,40 @@ module _ (q : Request) (l : List ℕ) (s : SavedCall) (b : List ℕ) (u : ℕ) (
   step Nothing t e x = simp (x, add-zero)
   step (Write r v) t e x = rw x (more log at u u w (write_entry r v) _ (advance_from q n (after_of q s 0) b (drop u l)) refl)
   step (Read r) true e x =
-      rw (e, x, left e)
+      rw (e, x, some_left e)
       (more log at u (u + 1) w (read_entry r (get_or l u 0)) _ (advance_from q n (after_of q s (get_or l u 0)) b (drop (u + 1) l)) (omega arith))
   step (Read r) false e x = simp (e, x, none_left e, add-zero)
   step (Take i) true e x =
-      rw (e, x, left e)
+      rw (e, x, some_left e)
       (more log at u (u + 1) w (read_entry Rxdr (get_or l u 0)) _
       (advance_from q n (after_of q s (get_or l u 0)) (set b i (byte_of (get_or l u 0))) (drop (u + 1) l)) (omega arith))
   step (Take i) false e x = simp (e, x, none_left e, add-zero)
 
   -- a turn is one access of the definition
-  pub turned : Steps q l s b u log at w n (made_in (access_of q b s))
-  turned = step (access_of q b s) (ltb u (length l)) refl refl
+  pub one_turn : Steps q l s b u log at w n (made_in (access_of q b s))
+  one_turn = step (access_of q b s) (ltb u (length l)) refl refl
 
--- an access that was made, and the call after it, are a turn
-module _ (c : Call) (d : Description) (v : View) (s : SavedCall) (f : Attempt) (b log : List ℕ) (M : AttemptLeft) (E : as_made f b log ≡ M) where
-  pub goes : f.going ≡ true → (n : SavedCall) → n ≡ after_in c d v s f.answer →
-      as_turn (record { going = true; report = f.report; used = f.used; saved = n }) b log ≡ turn_by c d v s M
-  goes g n e = rw e (rw g at (ap (turn_by c d v s) E))
+-- an access that was made, and the call after it, are a turn; where none was made, nor was a turn
+module _ (c : Call) (d : Description) (v : View) (s : SavedCall) (b log : List ℕ) (M : Left Made) where
+  pub goes : (m : Made) → left (Ok m) b log ≡ M → (n : SavedCall) → n ≡ after_in c d v s m.answer →
+      left (Ok (turned m.used n)) b log ≡ turn_by c d v s M
+  goes m E n e = rw e (ap (turn_by c d v s) E)
 
-  pub stays : f.going ≡ false →
-      as_turn (record { going = false; report = f.report; used = f.used; saved = s }) b log ≡ turn_by c d v s M
-  stays g = rw g at (ap (turn_by c d v s) E)
+  pub stays : (r : Report) → left (Err r) b log ≡ M → left (Err r) b log ≡ turn_by c d v s M
+  stays r E = ap (turn_by c d v s) E
+
+-- and a turn is owed to an access
+record Comes (c : Call) (d : Description) (v : View) (s : SavedCall) (m : Result Made Report) (t : Turned) : Type 0 where
+  access : Made
+  came : m ≡ Ok access
+  saved : t.saved ≡ after_in c d v s access.answer
+
+comes : (c : Call) (d : Description) (v : View) (s : SavedCall) (m : Result Made Report) (t : Turned) →
+    Ok t ≡ after_made c d v s m → Comes c d v s m t
+comes c d v s (Ok m) t e =
+    let f : t ≡ turned m.used (after_in c d v s m.answer) = cc in
+    record { access = m; came = refl; saved = ap (λ (x : Turned). x.saved) f }
+comes c d v s (Err r) t e = absurd (cc)
 
 -- What both loops go by: the lent slices keep their lengths, v is the view of the running piece, what row 13 asks holds, and
 -- what is still to come is F.
@@ -138,89 +152,62 @@ pub record Going (q : Request) (l : List ℕ) (p : ℕ) (F : Final) (b₀ log₀
   pub known : Known q s
   pub rest : to_come q l p b log s u w ≡ F
 
--- what the test of the quick ones says: one was made, and another place is left
-pub tested : (x : Bool) {y : Bool} → (x && y) ≡ true → (x ≡ true) × (y ≡ true)
-tested true h = (refl, h)
-tested false h = absurd (subst⁻¹ T h tt)
-
--- one within the other
-pub after : {q : Request} {l : List ℕ} {p : ℕ} {F : Final} {b₀ log₀ b₁ log₁ b log : List ℕ} {s₁ s : SavedCall} {v₁ v : View} {u₁ w₁ u w : ℕ} →
-    Going q l p (to_come q l p b₁ log₁ s₁ u₁ w₁) b₁ log₁ b log s v u w → Going q l p F b₀ log₀ b₁ log₁ s₁ v₁ u₁ w₁ →
-    Going q l p F b₀ log₀ b log s v u w
-after g h =
-    record {
-      places = g.places;
-      buffer_kept = g.buffer_kept ∙ h.buffer_kept;
-      log_kept = g.log_kept ∙ h.log_kept;
-      view = g.view;
-      known = g.known;
-      rest = g.rest ∙ h.rest;
-    }
+-- where a quick one was passed on, nothing was touched
+pub untouched : {q : Request} {l : List ℕ} {p : ℕ} {F : Final} {b₀ log₀ b log b' log' : List ℕ} {s : SavedCall} {v : View} {u w : ℕ} →
+    b' ≡ b → log' ≡ log → Going q l p F b₀ log₀ b log s v u w → Going q l p F b₀ log₀ b' log' s v u w
+untouched x y g = rw (x, y) g
 
 -- What a turn t from there with the buffer b' and the log log' left is.
-module _ (q : Request) (l : List ℕ) (p : ℕ) (F : Final) (b₀ log₀ b log : List ℕ) (s : SavedCall) (v : View) (u w : ℕ)
+module _ {q : Request} {l : List ℕ} {p : ℕ} {F : Final} {b₀ log₀ b log : List ℕ} {s : SavedCall} {v : View} {u w : ℕ}
     (g : Going q l p F b₀ log₀ b log s v u w) where
-  module _ (t : Turned) (b' log' : List ℕ) (E : as_turn t b' log' ≡ turnIn q.call q.words v s b l u log (2 * w)) where
-    seen : as_turn t b' log' ≡ turnIn q.call q.words (view_of q s) s b l u log (2 * w)
-    seen = E ∙ ap (λ (x : View). turnIn q.call q.words x s b l u log (2 * w)) g.view
+  module _ (t : Result Turned Report) (b' log' : List ℕ) (E : left t b' log' ≡ turn_of q.call q.words v s b l u log (2 * w)) where
+    seen : left t b' log' ≡ turn_of q.call q.words (view_of q s) s b l u log (2 * w)
+    seen = E ∙ ap (λ (x : View). turn_of q.call q.words x s b l u log (2 * w)) g.view
 
-    steps : w < p → to_come q l p b log s u w ≡ cond t.going (to_come q l p b' log' t.saved t.used (w + 1)) (as_end w (as_turn t b' log'))
+    steps : w < p → to_come q l p b log s u w ≡ follows q l s u (2 * w) w (p - (w + 1)) t b' log'
     unfolding access_of
     steps h =
         let less : p - w ≡ suc (p - (w + 1)) = omega arith in
+        rw less (subst⁻¹ (Steps q l s b u log (2 * w) w (p - (w + 1))) seen (one_turn q l s b u log (2 * w) w (p - (w + 1))))
+
+  -- none was made: nothing is still to come
+  pub ends : (r : Report) (b' log' : List ℕ) → left (Err r) b' log' ≡ turn_of q.call q.words v s b l u log (2 * w) → w < p →
+      as_final (record { used = u; written = w; saved = s; report = r }) b' log' ≡ F
+  ends r b' log' E h = sym (steps (Err r) b' log' E h) ∙ g.rest
+
+  -- an access was made
+  module _ (t : Turned) (b' log' : List ℕ) (E : left (Ok t) b' log' ≡ turn_of q.call q.words v s b l u log (2 * w)) where
+    again : w < p → to_come q l p b' log' t.saved t.used (w + 1) ≡ F
+    again h =
         let two : 2 * (w + 1) ≡ 2 * w + 2 = omega arith in
-        rw (less, two) (subst⁻¹ (Steps q l s b u log (2 * w) w (p - (w + 1))) seen (turned q l s b u log (2 * w) w (p - (w + 1))))
-
-    -- an access was made: the rest is still to come
-    pub again : w < p → t.going ≡ true → to_come q l p b' log' t.saved t.used (w + 1) ≡ F
-    again h m = sym (rw m at (steps h)) ∙ g.rest
-
-    -- none was made: nothing is
-    pub ends : w < p → t.going ≡ false →
-        as_final (record { used = t.used; written = w; saved = t.saved; report = t.report }) b' log' ≡ F
-    ends h m = sym (rw m at (steps h)) ∙ g.rest
+        rw two (sym (steps (Ok t) b' log' E h) ∙ g.rest)
 
     -- and what row 13 asks still holds
-    pub kept : t.going ≡ true → Known q t.saved
+    pub kept : Known q t.saved
     unfolding after_of access_of
-    kept m =
+    kept =
         let M = made_of q.call q.words (view_of q s) s b l u log (2 * w) in
-        let goes : M.going ≡ true = sym (ap (λ (x : TurnLeft). x.going) seen) ∙ m in
-        let next : t.saved ≡ after_of q s M.answer = rw goes at (ap (λ (x : TurnLeft). x.saved) seen) in
+        let o = comes q.call q.words (view_of q s) s M.came t (ap (λ (x : Left Turned). x.came) (seen (Ok t) b' log' E)) in
         both (same_step s.step Ended)
-        (λ n. let x : false ≡ true = ap (λ (y : Access). (made_by s b l u log (2 * w) y).going) (sym (no_access q b s n)) ∙ goes in absurd (subst⁻¹ T x tt))
-        (λ n. subst⁻¹ (Known q) next (known_after q s M.answer n g.known))
+        (λ n. absurd (let x : Err (Over s.outcome) ≡ Ok o.access = ap (λ (y : Access). (made_by s b l u log (2 * w) y).came) (sym (no_access q b s n)) ∙ o.came in cc))
+        (λ n. subst⁻¹ (Known q) o.saved (known_after q s o.access.answer n g.known))
 
-    pub goes_on : w < p → t.going ≡ true → length b' ≡ length b → length log' ≡ length log → (v' : View) → v' ≡ view_of q t.saved →
+    pub goes_on : w < p → length b' ≡ length b → length log' ≡ length log → (v' : View) → v' ≡ view_of q t.saved →
         Going q l p F b₀ log₀ b' log' t.saved v' t.used (w + 1)
-    goes_on h m x y v' e =
+    goes_on h x y v' e =
         record {
           places = rw y g.places;
           buffer_kept = x ∙ g.buffer_kept;
           log_kept = y ∙ g.log_kept;
           view = e;
-          known = kept m;
-          rest = again h m;
+          known = kept;
+          rest = again h;
         }
 
   -- a quick one: the running piece stays, so its view does
-  module _ (k : Quick) (b' log' : List ℕ) (Q : Quickly v s b l u log (2 * w) k b' log') where
-    abbrev came : Bool → TurnLeft
-    came y = cond y (turnIn q.call q.words v s b l u log (2 * w)) (as_turn (quick_turned s (passed s u)) b log)
-
-    by_made : (y : Bool) → k.made ≡ y → as_turn (quick_turned s k) b' log' ≡ came y
-    by_made y m = Q q.call q.words ∙ ap came m
-
-    pub goes_quick : w < p → k.made ≡ true → length b' ≡ length b → length log' ≡ length log →
-        Going q l p F b₀ log₀ b' log' (moved_by s k) v k.used (w + 1)
-    goes_quick h m x y = goes_on (quick_turned s k) b' log' (by_made true m) h m x y v g.view
-
-    -- passed on, with nothing touched
-    pub stays_quick : k.made ≡ false → Going q l p F b₀ log₀ b' log' s v u w
-    stays_quick m =
-        let buffer : b' ≡ b = ap (λ (x : TurnLeft). x.buffer) (by_made false m) in
-        let words : log' ≡ log = ap (λ (x : TurnLeft). x.log) (by_made false m) in
-        rw (buffer, words) g
+  pub goes_quick : (k : Quick) (b' log' : List ℕ) → Quickly v s b l u log (2 * w) (Some k) b' log' → w < p →
+      length b' ≡ length b → length log' ≡ length log → Going q l p F b₀ log₀ b' log' (moved_by s k) v k.used (w + 1)
+  goes_quick k b' log' Q h x y = goes_on (turned k.used (moved_by s k)) b' log' (Q q.call q.words) h x y v g.view
 
   -- no place is left
   pub full : p ≤ w → (r : Report) → r ≡ cond (same_step s.step Ended) (Over s.outcome) Full →

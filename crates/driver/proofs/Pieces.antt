@@ -23,8 +23,13 @@ use Rattle.calls.specs.declared.View.{View}
 use Rattle.driver.proofs.Positions.{position_next, position_at, position_operation, position_there, nonempty-is, list-view-is}
 use Rattle.driver.proofs.Transfers.{few}
 use Rattle.driver.specs.Views.{position, position_of, op_at, goes_on, cursor_by, position_after, cursor_at}
+use Rattle.driver.specs.declared.request.Request.{Request}
 use Rattle.driver.specs.declared.view.Cursor.{Cursor}
 use Rattle.driver.specs.declared.view.Position.{Position}
+
+-- what a request is lent fits its call
+pub fit_of : (r : Request) → Fit r.call r.operations.now r.size
+fit_of r = record { size = r.fits; few = r.few; sum = r.sum }
 
 start_inside : (at : ℕ) (ps : List Piece) (i : ℕ) → start_from at ps i + (piece_at ps i).size ≤ at + sizes ps
 start_inside at [] i = omega arith

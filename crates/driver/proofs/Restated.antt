@@ -1,5 +1,6 @@
 -- What the contracts of `begin`, `advance` and `next_access` give a caller, and demand 3 of the driver, once more, fact by fact. A contract or a
 -- theorem that loses a fact, and its proof with it, fails here. Assumes nothing.
+use Rattle.std.specs.Prelude.{Result, Ok, Err}
 use Prim.Native.Nat.{ℕ, zero, suc, ◌*◌, ◌/◌}
 use mathlib.Core.Path.{◌≡◌, refl, ap, ◌∙◌, subst}
 use mathlib.Core.Bool.{not}
@@ -31,8 +32,6 @@ use Rattle.calls.specs.declared.Report.{Report}
 use Rattle.calls.specs.declared.Report.TheVariants.{Over, Refused}
 use Rattle.calls.specs.declared.SavedCall.{SavedCall}
 use Rattle.calls.specs.declared.Step.TheVariants.{Ended}
-use Rattle.calls.specs.declared.Verdict.{Verdict}
-use Rattle.calls.specs.declared.Verdict.TheVariants.{Accepted, Refused as Rejected}
 use Rattle.driver.specs.Demand.{Advancing, InTurn}
 use Rattle.driver.proofs.CameBack.{CameBack}
 use Rattle.driver.proofs.Demand.{BeginCall, AdvanceCall, advancing, driver_demand_3}
@@ -66,16 +65,16 @@ module _ (B : BeginCall) where
   abbrev b : List ℕ
   b = B.given.1.1.0.now
 
-  begun : (v : Verdict) → check_of d ops (length b) ≡ v → B.gave ≡ begun_by v d ops (length b)
+  begun : (v : Result Call Refusal) → check_of d ops (length b) ≡ v → B.gave ≡ begun_by v d ops (length b)
   unfolding begun_of
   begun v e = B.contract ∙ rw e
 
-  pub begin_accepted : (c : Call) → check_of d ops (length b) ≡ Accepted c →
-      (B.gave.verdict ≡ Accepted c) × (B.gave.saved ≡ begin_of (request_of c d ops (length b)))
-  begin_accepted c e = (ap (λ (g : Begun). g.verdict) (begun (Accepted c) e), ap (λ (g : Begun). g.saved) (begun (Accepted c) e))
+  pub begin_accepted : (c : Call) → check_of d ops (length b) ≡ Ok c →
+      (B.gave.verdict ≡ Ok c) × (B.gave.saved ≡ begin_of (request_of c d ops (length b)))
+  begin_accepted c e = (ap (λ (g : Begun). g.verdict) (begun (Ok c) e), ap (λ (g : Begun). g.saved) (begun (Ok c) e))
 
-  pub begin_refused : (r : Refusal) → check_of d ops (length b) ≡ Rejected r → (B.gave.verdict ≡ Rejected r) × (B.gave.saved.call ≡ 0)
-  begin_refused r e = (ap (λ (g : Begun). g.verdict) (begun (Rejected r) e), ap (λ (g : Begun). g.saved.call) (begun (Rejected r) e))
+  pub begin_refused : (r : Refusal) → check_of d ops (length b) ≡ Err r → (B.gave.verdict ≡ Err r) × (B.gave.saved.call ≡ 0)
+  begin_refused r e = (ap (λ (g : Begun). g.verdict) (begun (Err r) e), ap (λ (g : Begun). g.saved.call) (begun (Err r) e))
 
 -- ---- An advance that came back.
 
@@ -139,12 +138,12 @@ module _ (C : AdvanceCall) where
       R = run_of A.words A.operations (length A.log / 2) s A.buffer A.answers
 
   -- a description that begin refuses is refused as begin refuses it
-  pub advance_refused : (r : Refusal) → check_of A.words A.operations (length A.buffer) ≡ Rejected r → Idle A s (Refused r)
+  pub advance_refused : (r : Refusal) → check_of A.words A.operations (length A.buffer) ≡ Err r → Idle A s (Refused r)
   unfolding run_of
   advance_refused r e = idle A s (Refused r) advance_defined (rw e)
 
   -- a saved call that row 13 does not accept is refused as 13
-  module _ (c : Call) (accepted : check_of A.words A.operations (length A.buffer) ≡ Accepted c) where
+  module _ (c : Call) (accepted : check_of A.words A.operations (length A.buffer) ≡ Ok c) where
     abbrev q : Request
     q = request_of c A.words A.operations (length A.buffer)
 
@@ -178,10 +177,10 @@ module _ (N : NextCall) where
   buffer = N.given.1.1.1.0.now
 
   -- it is refused as an advance is
-  pub next_refused : (r : Refusal) → check_of words operations (length buffer) ≡ Rejected r → N.gave ≡ next.Refused r
+  pub next_refused : (r : Refusal) → check_of words operations (length buffer) ≡ Err r → N.gave ≡ next.Refused r
   next_refused r e = N.contract ∙ rw e
 
-  module _ (c : Call) (accepted : check_of words operations (length buffer) ≡ Accepted c) where
+  module _ (c : Call) (accepted : check_of words operations (length buffer) ≡ Ok c) where
     abbrev asked : Request
     asked = request_of c words operations (length buffer)
 
@@ -242,12 +241,12 @@ module _ (B : BeginCall) (Cs : List AdvanceCall) (calls : Calls B.given.0 B.give
       (driver_demand_3 B Cs (in_turn calls))
 
   -- an accepted begin: all that demand 3 says holds of them
-  pub calls_kept : (c : Call) → B.gave.verdict ≡ Accepted c →
+  pub calls_kept : (c : Call) → B.gave.verdict ≡ Ok c →
       Kept (request_of c B.given.0 B.given.1.0.now (length B.given.1.1.0.now)) B.given.1.1.0.now (map as_advance Cs)
   calls_kept c e =
-      subst (λ (v : Verdict). Demand3 v B.given.0 B.given.1.0.now B.given.1.1.0.now (map as_advance Cs)) e demand
+      subst (λ (v : Result Call Refusal). Demand3 v B.given.0 B.given.1.0.now B.given.1.1.0.now (map as_advance Cs)) e demand
 
   -- a refused one: all are refused, and nothing is done
-  pub calls_refused : (r : Refusal) → B.gave.verdict ≡ Rejected r → NoRun B.given.1.1.0.now (map as_advance Cs)
+  pub calls_refused : (r : Refusal) → B.gave.verdict ≡ Err r → NoRun B.given.1.1.0.now (map as_advance Cs)
   calls_refused r e =
-      subst (λ (v : Verdict). Demand3 v B.given.0 B.given.1.0.now B.given.1.1.0.now (map as_advance Cs)) e demand
+      subst (λ (v : Result Call Refusal). Demand3 v B.given.0 B.given.1.0.now B.given.1.1.0.now (map as_advance Cs)) e demand

@@ -1,4 +1,5 @@
 -- A quick turn is the general one, whatever the call. Assumes nothing.
+use Rattle.std.specs.Prelude.{Ok}
 use Prim.Native.Nat.{ℕ, ◌+◌, ◌-◌, ◌/◌, ◌%◌, ◌^◌, ◌<◌, ◌≤◌, min}
 use native.Mathlib.Omega.{arith}
 use borrow.Author.Tests.{lt-ltb, le-leb}
@@ -29,7 +30,7 @@ use Rattle.calls.specs.declared.Step.TheVariants.{Wait, Byte}
 use Rattle.calls.specs.declared.Effect.TheVariants.{Goes, Next}
 use Rattle.calls.specs.declared.View.{View}
 use Rattle.driver.proofs.Loop.{goes}
-use Rattle.driver.specs.Turn.{as_made, went, made_by, made_of, as_turn, turn_left, quickly, moved_by, quick_turned}
+use Rattle.driver.specs.Turn.{left, made, made_by, made_of, turned, turn_of, quickly, moved_by}
 
 -- ---- The flags that a wait looks at stand in bits 1 to 9 of the status word.
 
@@ -114,15 +115,15 @@ module _ (c : Call) (d : Description) (v : View) (s : SavedCall) (b l : List ℕ
   -- an entry in the log, and t next
   abbrev Turns : ℕ → ℕ → ℕ → ℕ → ℕ → Step → List ℕ → Type 0
   Turns code value u' j m t b' =
-      as_turn (quick_turned s (quickly u' j m t)) b' (set (set log at code) (at + 1) value) ≡ turn_left c d v s b l u log at
+      left (Ok (turned u' (moved_by s (quickly u' j m t)))) b' (set (set log at code) (at + 1) value) ≡ turn_of c d v s b l u log at
 
   -- from the access of the step x, with its answer, and what follows
   turns : (code value u' a j m : ℕ) (t x : Step) (b' : List ℕ) → s.step ≡ x →
-      as_made (went u' a) b' (set (set log at code) (at + 1) value) ≡ made_by s b l u log at (access_at c d v b s x) →
+      left (Ok (made u' a)) b' (set (set log at code) (at + 1) value) ≡ made_by s b l u log at (access_at c d v b s x) →
       moved_by s (quickly u' j m t) ≡ apply_of (noted v s a x) a (effect_at c d v (noted v s a x) a x) → Turns code value u' j m t b'
   turns code value u' a j m t x b' e k n =
-      goes c d v s (went u' a) b' _ (made_of c d v s b l u log at)
-      (k ∙ ap (λ (y : Step). made_by s b l u log at (access_at c d v b s y)) (sym e)) refl _
+      goes c d v s b' _ (made_of c d v s b l u log at) (made u' a)
+      (k ∙ ap (λ (y : Step). made_by s b l u log at (access_at c d v b s y)) (sym e)) _
       (n ∙ ap (λ (y : Step). apply_of (noted v s a y) a (effect_at c d v (noted v s a y) a y)) (sym e))
 
   pub waited : (t : Step) → same_step s.step Wait ≡ true → ltb u (length l) ≡ true → effect_at c d v s (get_or l u 0) Wait ≡ Goes t →

@@ -1,16 +1,23 @@
 -- Serves the proofs of a view and of row 13: parts of them in the numbers that the code has at hand. Assumes nothing.
-use Rattle.std.specs.Prelude.{ℕ, suc, ◌+◌, ◌-◌, ◌*◌, ◌/◌, min, max, Bool, cond, not, ◌&&◌, ◌||◌, List, [], ◌∷◌, eqb, ltb, leb, length, get_or}
+use Rattle.std.specs.Prelude.{ℕ, suc, ◌+◌, ◌-◌, ◌*◌, ◌/◌, min, max, Bool, cond, not, ◌&&◌, ◌||◌, List, [], ◌∷◌, eqb, ltb, leb, length, get_or, Option, Some, None, Result, Ok, Err}
 use Rattle.std.specs.Bool.{beq}
 use Rattle.calls.specs.Calls.{Request, call_number, transaction, manual_write}
 use Rattle.calls.specs.Pieces.{Piece, piece_of, pieces_for, most_for, view_at, byte_there}
-use Rattle.calls.specs.Refusals.{length_of, takes}
+use Rattle.calls.specs.Refusals.{length_of, takes, request_of, accepts}
 use Rattle.calls.specs.Steps.{same_step}
 use Rattle.calls.specs.declared.Call.{Call}
+use Rattle.calls.specs.declared.Description.{Description}
+use Rattle.calls.specs.declared.Refusal.{Refusal}
+use Rattle.calls.specs.declared.Refusal.TheVariants.{SavedCall as BadSavedCall}
 use Rattle.calls.specs.declared.SavedCall.{SavedCall}
 use Rattle.calls.specs.declared.Step.TheVariants.{Ended, Byte}
 use Rattle.calls.specs.declared.View.{View}
 use Rattle.driver.specs.declared.view.Cursor.{Cursor}
 use Rattle.driver.specs.declared.view.Position.{Position}
+
+-- a word of a list, if it is there
+abbrev pub word_of : List ℕ → ℕ → Option ℕ
+word_of l i = cond (ltb i (length l)) (Some (get_or l i 0)) None
 
 -- ---- Where piece i of a list lies
 
@@ -83,3 +90,10 @@ at_byte c v s =
 
 abbrev pub stands_in : Call → List ℕ → ℕ → SavedCall → Bool
 stands_in c ops n s = ltb s.piece (max 1 (length (pieces_for c ops n))) && at_byte c (view_at (pieces_for c ops n) (most_for c n) s.piece) s
+
+-- where a saved call stands that row 13 takes: at a piece, or at none if it has ended
+abbrev pub standing : Call → Description → List ℕ → ℕ → SavedCall → Result (Option Cursor) Refusal
+standing c d ops n s =
+    cond (accepts (request_of c d ops n) s)
+    (Ok (cond (same_step s.step Ended) None (Some (cursor_at c ops n s.piece))))
+    (Err BadSavedCall)

@@ -2,7 +2,9 @@
 #![tactic(auto)]
 
 ghost use Rattle.std.specs.Prelude.{◌≡◌, ◌+◌, ◌-◌, ◌^◌, ◌≤◌, ◌<◌, min};
-ghost use Rattle.fields.specs.Field.{bits_at, with_bits, get_of, put_of, flag_of, mark_of, place, bit};
+ghost use Rattle.fields.specs.Field.{bits_at, with_bits, get_of, put_of, flag_of, mark_of, place, bit, inside};
+
+// By hand: a word, a place and a width stay three numbers. A struct of them would be made at each field and taken apart again here.
 
 // The lowest `width` bits, set. It is worked out in 64 bits, because a word of 32 cannot be shifted by 32.
 fn mask(width: u32) -> u32
@@ -20,6 +22,7 @@ fn bits(word: u32, at: u32, width: u32) -> u32
     (word >> at) & mask(width)
 }
 
+#[tactic(auto, using(crate::proofs::Arithmetic::masked))]
 fn with_bits(word: u32, at: u32, width: u32, value: u32) -> u32
     requires at_bound { at < 32 }
     requires width_bound { at + width ≤ 32 }
@@ -29,44 +32,42 @@ fn with_bits(word: u32, at: u32, width: u32, value: u32) -> u32
     (word & !(m << at)) | ((value & m) << at)
 }
 
+// Whether the word has a field of `width` bits from bit `at` on.
+fn is_inside(at: u32, width: u32) -> bool
+    ensures { result ≡ inside (place at width) }
+{
+    at < 32 && width <= 32 - at
+}
+
 // The field of `width` bits from bit `at` on; 0 where the word has no such field.
+#[tactic(auto, unfolding(crate::specs::Field::get_of))]
 pub fn get(word: u32, at: u32, width: u32) -> u32
     ensures { result ≡ get_of word (place at width) }
 {
-    if at >= 32 {
-        return 0;
+    if is_inside(at, width) {
+        bits(word, at, width)
+    } else {
+        0
     }
-    if width > 32 - at {
-        return 0;
-    }
-    bits(word, at, width)
 }
 
 // The word with the low `width` bits of `value` in that field; the word itself where it has no such field.
+#[tactic(auto, unfolding(crate::specs::Field::put_of))]
 pub fn put(word: u32, at: u32, width: u32, value: u32) -> u32
     ensures { result ≡ put_of word (place at width) value }
 {
-    if at >= 32 {
-        return word;
+    if is_inside(at, width) {
+        with_bits(word, at, width, value)
+    } else {
+        word
     }
-    if width > 32 - at {
-        return word;
-    }
-    with_bits(word, at, width, value)
-}
-
-fn least(a: u32, b: u32) -> u32
-    ensures { result ≡ min a b }
-{
-    if a < b { a } else { b }
 }
 
 // A field of at most eight bits, as a byte; of a wider one the low eight bits.
 pub fn get_u8(word: u32, at: u32, width: u32) -> u8
     ensures { result ≡ get_of word (place at (min width 8)) }
 {
-    let narrow = least(width, 8);
-    get(word, at, narrow) as u8
+    get(word, at, width.min(8)) as u8
 }
 
 pub fn flag(word: u32, at: u32) -> bool
@@ -78,9 +79,5 @@ pub fn flag(word: u32, at: u32) -> bool
 pub fn mark(word: u32, at: u32, on: bool) -> u32
     ensures { result ≡ mark_of word (bit at) on }
 {
-    if on {
-        put(word, at, 1, 1)
-    } else {
-        put(word, at, 1, 0)
-    }
+    put(word, at, 1, u32::from(on))
 }

@@ -1,5 +1,6 @@
 -- What the contracts of the two functions and their demand 3 say, again and in other words. Nothing rests on this file: it is
 -- proved so that a contract or a statement that loses a part is noticed. Assumes nothing.
+use Rattle.std.specs.Prelude.{Result, Ok, Err}
 use Prim.Native.Nat.{ℕ, ◌/◌, ◌≤◌}
 use mathlib.Core.Path.{◌≡◌, refl, sym, ap, ◌∙◌, subst}
 use mathlib.Core.Bool.{not}
@@ -17,8 +18,6 @@ use Rattle.calls.specs.declared.Call.{Call}
 use Rattle.calls.specs.declared.Description.{Description}
 use Rattle.calls.specs.declared.Refusal.{Refusal}
 use Rattle.calls.specs.declared.SavedCall.{SavedCall}
-use Rattle.calls.specs.declared.Verdict.{Verdict}
-use Rattle.calls.specs.declared.Verdict.TheVariants.{Accepted, Refused}
 use Rattle.driver.proofs.Demand.{BeginCall, beginning, AdvanceCall}
 use Rattle.driver.proofs.Demand as driver
 use Rattle.driver.specs.Demand.{Advancing, InTurn}
@@ -146,16 +145,16 @@ advances Cs = map (λ (A : Advancing). A.advance) (map advancing Cs)
 
 module _ (B : BeginCall) (Cs : List Called)
     (l : Linked (beginning B).description (beginning B).operations Cs B.gave.saved (beginning B).buffer) where
-  demand : (v : Verdict) → B.gave.verdict ≡ v → Demand3 v (beginning B).description (beginning B).operations (beginning B).buffer (advances Cs)
+  demand : (v : Result Call Refusal) → B.gave.verdict ≡ v → Demand3 v (beginning B).description (beginning B).operations (beginning B).buffer (advances Cs)
   demand v e =
-      subst (λ (v : Verdict). Demand3 v (beginning B).description (beginning B).operations (beginning B).buffer (advances Cs)) e
+      subst (λ (v : Result Call Refusal). Demand3 v (beginning B).description (beginning B).operations (beginning B).buffer (advances Cs)) e
       (in_place_demand_3 B Cs (in_turn _ _ Cs _ _ l))
 
   -- after an accepted begin they are one uncut run, with all that demand 3 says of its log, its bytes, its count and its accesses
-  one_run : (c : Call) → B.gave.verdict ≡ Accepted c →
+  one_run : (c : Call) → B.gave.verdict ≡ Ok c →
       Kept (request_of c (beginning B).description (beginning B).operations (length (beginning B).buffer)) (beginning B).buffer (advances Cs)
-  one_run c e = demand (Accepted c) e
+  one_run c e = demand (Ok c) e
 
   -- after a refused one all are refused, and nothing was done
-  no_run : (r : Refusal) → B.gave.verdict ≡ Refused r → NoRun (beginning B).buffer (advances Cs)
-  no_run r e = demand (Refused r) e
+  no_run : (r : Refusal) → B.gave.verdict ≡ Err r → NoRun (beginning B).buffer (advances Cs)
+  no_run r e = demand (Err r) e

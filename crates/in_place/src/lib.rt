@@ -9,6 +9,7 @@ ghost use Rattle.in_place.specs.InPlace.{in_place};
 use calls::{Advanced, Description, Report, SavedCall};
 
 // What an advance says, beside the saved call.
+// By hand: an `Advanced` would have the saved call twice, as lent and as returned.
 #[derive(Clone, Copy)]
 pub struct Progress {
     pub used: usize,
@@ -36,23 +37,23 @@ pub fn advance_in_place(
     }
 }
 
-// The same with the saved call by value. Whoever calls this makes no reference to a struct, and so is proved without a walk.
+// The same with the saved call by value.
+// By hand: the two differ in how the saved call is lent, which no type parameter says; `in_place_demand_3` is of both.
 pub fn advance(
     d: Description,
     ops: &[u32],
-    saved: SavedCall,
+    mut saved: SavedCall,
     buffer: &mut [u8],
     answers: &[u32],
     log: &mut [u32],
 ) -> Advanced
     ensures { as_final result buffer.new log.new ≡ final_of d ops.now saved buffer.old answers.now log.old }
 {
-    let mut kept = saved;
-    let p = advance_in_place(d, ops, &mut kept, buffer, answers, log);
+    let p = advance_in_place(d, ops, &mut saved, buffer, answers, log);
     Advanced {
         used: p.used,
         written: p.written,
-        saved: kept,
+        saved,
         report: p.report,
     }
 }

@@ -1,65 +1,86 @@
-// Input that is read whole, what a program asks of the system, and the lines of a text.
+// Input that is read whole, what a program asks of the system, and the lines and words of a text.
 #![tactic(auto)]
 
 mod program;
+mod text;
 
-ghost use Rattle.std.specs.Counts.{IsPrefixLen};
+ghost use Rattle.std.specs.Prelude.{◌≤◌, ◌<◌, ◌^◌, length, IfSome};
 
-pub use program::{BUFFER, arg, arg_count, complain, fail, open};
+pub use program::{Argument, BUFFER, arg, arg_count, complain, fail, open, say};
 use std::io::Read;
 use std::rt::HostRuntime;
+pub use text::{Lines, Words};
 
-// How many bytes came, and whether no read failed.
-#[derive(Clone, Copy)]
-pub struct Input {
-    pub n: usize,
-    pub whole: bool,
-}
-
-// Puts the input at the start of `buf`, as far as there is room. A read that fails is said on standard error, with the
-// input's name.
-pub fn read<R: Read>(rt: &HostRuntime, reader: &mut R, name: &[u8], buf: &mut [u8]) -> Input
-    ensures { IsPrefixLen result.n buf.new }
+// The input as far as there is room for it in `buf`. A read that fails is said on standard error, with the input's name.
+pub fn read<'a, R: Read>(
+    rt: &HostRuntime,
+    reader: &mut R,
+    name: &[u8],
+    buf: &'a mut [u8],
+) -> Option<&'a [u8]>
+    ensures { IfSome result (λ input. length input.now ≤ length buf.old) }
 {
+    // By hand: std reads to the end into a Vec only, and the programs have fixed memory.
     let mut n = 0;
     while n < buf.len() {
         match reader.read(&mut buf[n..]) {
-            Ok(0) => return Input { n, whole: true },
+            Ok(0) => break,
             Ok(more) => n += more,
             Err(error) => {
                 fail(rt, name, error);
-                return Input { n, whole: false };
+                return None;
             }
         }
     }
-    Input { n, whole: true }
+    Some(&buf[..n])
 }
 
-// The first n bytes, or all of them where there are fewer.
-pub fn start(bytes: &[u8], n: usize) -> &[u8] {
-    if n <= bytes.len() {
-        &bytes[0..n]
-    } else {
-        bytes
-    }
-}
-
-// The first line up to its comment, which `#` begins.
-pub fn content(text: &[u8]) -> &[u8] {
-    for i in 0..text.len() {
-        if text[i] == b'\n' || text[i] == b'#' {
-            return &text[0..i];
+// A file that cannot be opened is said on standard error too.
+pub fn read_file<'a, const ROOM: usize>(
+    rt: &HostRuntime,
+    path: &[u8],
+    room: &'a mut [u8; ROOM],
+) -> Option<&'a [u8]>
+    ensures { IfSome result (λ input. length input.now ≤ ROOM) }
+{
+    match open(rt, path) {
+        Ok(mut file) => read(rt, &mut file, path, room),
+        Err(error) => {
+            fail(rt, path, error);
+            None
         }
     }
-    text
 }
 
-// What follows the first line.
-pub fn after_line(text: &[u8]) -> &[u8] {
-    for i in 0..text.len() {
-        if text[i] == b'\n' {
-            return &text[i + 1..];
+pub const STDIN: &[u8] = b"standard input";
+
+pub fn read_stdin<'a, const ROOM: usize>(
+    rt: &HostRuntime,
+    room: &'a mut [u8; ROOM],
+) -> Option<&'a [u8]>
+    ensures { IfSome result (λ input. length input.now ≤ ROOM) }
+{
+    read(rt, &mut rt.stdin(), STDIN, room)
+}
+
+// Hands each file that an argument names to `f`, with its name, from the argument `first` on; without one, standard input. What has no
+// room is cut off.
+pub fn each<const ROOM: usize, F: FnMut(&[u8], &[u8])>(rt: &HostRuntime, first: usize, mut f: F)
+    requires room { ROOM < 2 ^ 63 }
+    requires calls { F.IsAlwaysCallable f }
+{
+    // By hand: fixed memory, and the system gives arguments by their numbers.
+    let mut room = [0u8; ROOM];
+    let count = arg_count(rt);
+    if count <= first {
+        if let Some(input) = read_stdin(rt, &mut room) {
+            f(STDIN, input);
         }
     }
-    &text[0..0]
+    for i in first..count {
+        let path = arg(rt, i).unwrap_or_default();
+        if let Some(input) = read_file(rt, path.as_slice(), &mut room) {
+            f(path.as_slice(), input);
+        }
+    }
 }

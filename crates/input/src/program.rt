@@ -1,33 +1,32 @@
 // What a program asks of the system: its arguments, a file by its name, and standard error.
-ghost use Rattle.std.specs.Counts.{IsPrefixLen};
-
+use arrayvec::{ArrayString, ArrayVec};
 use std::env::{Env, FillError};
+use std::fmt::Write;
 use std::fs::File;
 use std::io;
-use std::io::{Cursor, Error, ErrorKind, Print, Write};
+use std::io::{Error, ErrorKind, Print};
 use std::rt::HostRuntime;
 
 // Room for any path, and for any other argument that a program looks at.
 pub const BUFFER: usize = 4096;
 
+// By hand: a Vec would have to be told what becomes of an argument when memory runs out; this cannot run out.
+pub type Argument = ArrayVec<u8, BUFFER>;
+
 // How many arguments the program was started with, its own name among them.
 pub fn arg_count(rt: &HostRuntime) -> usize {
-    for i in 0..usize::MAX {
-        if let Err(FillError::NotPresent) = rt.arg(i, &mut []) {
-            return i;
-        }
-    }
-    usize::MAX
+    (0..usize::MAX)
+        .find(|&i| matches!(rt.arg(i, &mut []), Err(FillError::NotPresent)))
+        .unwrap_or(usize::MAX)
 }
 
-// Puts an argument at the start of `buf` and says its length: 0 where it is missing or longer than `buf`.
-pub fn arg(rt: &HostRuntime, i: usize, buf: &mut [u8]) -> usize
-    ensures { IsPrefixLen result buf.new }
-{
-    match rt.arg(i, buf) {
-        Ok(n) => n,
-        Err(_) => 0,
-    }
+// An argument, none where it is missing or longer than a path may be.
+pub fn arg(rt: &HostRuntime, i: usize) -> Option<Argument> {
+    let mut bytes = [0u8; BUFFER];
+    let n = rt.arg(i, &mut bytes).ok()?;
+    let mut argument = ArrayVec::from(bytes);
+    argument.truncate(n);
+    Some(argument)
 }
 
 // Opens a file for reading. A name that is not UTF-8 is the name of none.
@@ -43,32 +42,26 @@ pub fn complain(rt: &HostRuntime, text: &[u8]) {
     let _ = Print::write_all(&rt.stderr(), text);
 }
 
-// The text of an error without the system's number for it, which stands behind it in brackets.
-fn without_number(text: &[u8]) -> &[u8] {
-    for i in 0..text.len() {
-        if text[i..].starts_with(b" (os error ") {
-            return &text[0..i];
-        }
-    }
-    text
+// Writes a line to standard error: a name, a colon and what is wrong.
+pub fn say(rt: &HostRuntime, name: &[u8], what: &str) {
+    complain(rt, name);
+    complain(rt, b": ");
+    complain(rt, what.as_bytes());
+    complain(rt, b"\n");
 }
 
 // The longest text of an error that is shown whole.
 const SHOWN: usize = 256;
 
-fn say_error(rt: &HostRuntime, error: Error) {
-    let mut text = [0u8; SHOWN];
-    let mut rest = &mut text[..];
-    let _ = write!(rest, "{error}");
-    let left = rest.len();
-    let said = crate::start(&text, SHOWN.saturating_sub(left));
-    complain(rt, without_number(said));
-}
-
-// Writes a line to standard error: what failed, as the caller names it, a colon and the error's text.
+// Says what failed, as the caller names it, and the error's text, but not the system's number for it, which stands behind it in brackets.
 pub fn fail(rt: &HostRuntime, what: &[u8], error: Error) {
-    complain(rt, what);
-    complain(rt, b": ");
-    say_error(rt, error);
-    complain(rt, b"\n");
+    let mut text: ArrayString<SHOWN> = ArrayString::new();
+    let _ = write!(text, "{error}");
+    let text = text.as_str();
+    say(
+        rt,
+        what,
+        text.split_once(" (os error ")
+            .map_or(text, |(before, _)| before),
+    );
 }

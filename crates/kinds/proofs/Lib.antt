@@ -1,1 +1,2 @@
 pub mod Branch
+pub mod Equal

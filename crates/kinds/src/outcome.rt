@@ -4,6 +4,7 @@ ghost use Rattle.calls.specs.Outcomes.{is_done, is_event_read, outcome_number, o
 
 use calls::Outcome;
 
+// By hand: no `From<Outcome> for u32`, since an outcome is its number and its value, which C reads side by side.
 pub fn number(o: Outcome) -> u32
     ensures { result ≡ outcome_number o }
 {
@@ -24,35 +25,13 @@ pub fn number(o: Outcome) -> u32
 pub fn is_done(o: Outcome) -> bool
     ensures { result ≡ is_done o }
 {
-    match o {
-        Outcome::Done(_) => true,
-        Outcome::Bus => false,
-        Outcome::Arbitration => false,
-        Outcome::Nack => false,
-        Outcome::Stopped => false,
-        Outcome::ExpectedWrite => false,
-        Outcome::ExpectedRead => false,
-        Outcome::EventRead(_) => false,
-        Outcome::EventWrite(_) => false,
-        Outcome::EventStop => false,
-    }
+    matches!(o, Outcome::Done(_))
 }
 
 pub fn is_event_read(o: Outcome) -> bool
     ensures { result ≡ is_event_read o }
 {
-    match o {
-        Outcome::Done(_) => false,
-        Outcome::Bus => false,
-        Outcome::Arbitration => false,
-        Outcome::Nack => false,
-        Outcome::Stopped => false,
-        Outcome::ExpectedWrite => false,
-        Outcome::ExpectedRead => false,
-        Outcome::EventRead(_) => true,
-        Outcome::EventWrite(_) => false,
-        Outcome::EventStop => false,
-    }
+    matches!(o, Outcome::EventRead(_))
 }
 
 // The count of bytes or the address that an outcome comes with.
@@ -60,15 +39,7 @@ pub fn value(o: Outcome) -> u32
     ensures { result ≡ outcome_value o }
 {
     match o {
-        Outcome::Done(n) => n,
-        Outcome::Bus => 0,
-        Outcome::Arbitration => 0,
-        Outcome::Nack => 0,
-        Outcome::Stopped => 0,
-        Outcome::ExpectedWrite => 0,
-        Outcome::ExpectedRead => 0,
-        Outcome::EventRead(n) => n,
-        Outcome::EventWrite(n) => n,
-        Outcome::EventStop => 0,
+        Outcome::Done(n) | Outcome::EventRead(n) | Outcome::EventWrite(n) => n,
+        _ => 0,
     }
 }

@@ -4,7 +4,7 @@ ghost use Rattle.calls.specs.Advances.{is_refusal};
 ghost use Rattle.calls.specs.Joined.{is_full};
 ghost use Rattle.calls.specs.Outcomes.{report_number, report_value, awaited_of};
 
-use crate::{outcome, refusal};
+use crate::outcome;
 use calls::Report;
 
 // The numbers that follow the outcomes'.
@@ -14,6 +14,7 @@ const REFUSED: u32 = WAITING + 1;
 
 const FULL: u32 = REFUSED + 1;
 
+// By hand: a report is a number and a value, as an outcome is.
 pub fn number(report: Report) -> u32
     ensures { result ≡ report_number report }
 {
@@ -30,9 +31,8 @@ pub fn value(report: Report) -> u32
 {
     match report {
         Report::Over(o) => outcome::value(o),
-        Report::Full => 0,
-        Report::Waiting(_) => 0,
-        Report::Refused(why) => refusal::number(why),
+        Report::Full | Report::Waiting(_) => 0,
+        Report::Refused(why) => why.into(),
     }
 }
 
@@ -41,31 +41,19 @@ pub fn awaited(report: Report) -> u32
     ensures { result ≡ awaited_of report }
 {
     match report {
-        Report::Over(_) => 0,
-        Report::Full => 0,
         Report::Waiting(r) => r.offset(),
-        Report::Refused(_) => 0,
+        _ => 0,
     }
 }
 
 pub fn is_refusal(report: Report) -> bool
     ensures { result ≡ is_refusal report }
 {
-    match report {
-        Report::Over(_) => false,
-        Report::Full => false,
-        Report::Waiting(_) => false,
-        Report::Refused(_) => true,
-    }
+    matches!(report, Report::Refused(_))
 }
 
 pub fn is_full(report: Report) -> bool
     ensures { result ≡ is_full report }
 {
-    match report {
-        Report::Over(_) => false,
-        Report::Full => true,
-        Report::Waiting(_) => false,
-        Report::Refused(_) => false,
-    }
+    matches!(report, Report::Full)
 }

@@ -21,6 +21,7 @@ pub fn fresh(n: u32, step: Step) -> SavedCall
 }
 
 // What a refused begin hands out: it has number 0, which no advance takes.
+// By hand: no `Default`, since this is an ended call of nobody, and the name says so.
 pub fn no_call() -> SavedCall
     ensures { result ≡ no_call }
 {

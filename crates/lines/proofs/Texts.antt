@@ -1,10 +1,11 @@
 -- The loops over a log and a buffer, and a log in either form. Assumes nothing.
-use Prim.Native.Nat.{ℕ, ◌-◌, ◌≤◌, ◌<◌}
+use Prim.Native.Nat.{ℕ, ◌+◌, ◌-◌, ◌≤◌, ◌<◌}
+use native.Mathlib.Numerals.{add-one}
 use native.Mathlib.Omega.{arith}
 use mathlib.Core.Path.{◌≡◌, refl}
 use mathlib.Core.List.{List, [], ◌∷◌, ◌++◌}
-use lib.ListN.{length, get_or, take, drop}
-use lib.Seq.{take_all}
+use lib.ListN.{length, get_or, take, drop, drop_of_length-le}
+use lib.Seq.{take_all, drop-cons}
 use borrow.Author.Tests.{lt-ltb, le-ltb, eq-eqb, ne_eqb}
 use Rattle.numerals.specs.Numbers.{hex_of}
 use Rattle.window.specs.Window.{Laid, emit_of}
@@ -36,24 +37,20 @@ module _ (log rest : List ℕ) (K L : Laid) (done : emit_of (access_lines rest) 
       emit_of (access_lines (take (length rest - 2) (drop 2 rest))) M ≡ emit_of (access_lines log) K
   next_entry h M e = rw e (rw (first_entry rest h, emit_append) at done)
 
--- ---- the bytes of a buffer, likewise
-first_byte : (bs : List ℕ) → 0 < length bs → bytes_text bs ≡ hex_of 2 (get_or bs 0 0) ++ bytes_text (take (length bs - 1) (drop 1 bs))
-unfolding bytes_text
-first_byte [] h = absurd (omega arith)
-first_byte (b ∷ bs) h = rw (take_all (length (b ∷ bs) - 1) bs (omega arith))
+pub ruleset entries = (entries_put, next_entry)
 
-no_byte : (bs : List ℕ) → length bs ≤ 0 → bytes_text bs ≡ []
-unfolding bytes_text
-no_byte [] h = refl
-no_byte (b ∷ bs) h = absurd (omega arith)
+-- ---- the bytes of a buffer, of which those before i are put
+module _ (bytes : List ℕ) (i : ℕ) (K L : Laid) (done : emit_of (bytes_text (drop i bytes)) L ≡ emit_of (bytes_text bytes) K) where
+  pub bytes_put_holds : length bytes ≤ i → L ≡ emit_of (bytes_text bytes) K
+  unfolding bytes_text
+  bytes_put_holds h = rw (drop_of_length-le bytes h, emit_none) at done
 
-module _ (bytes rest : List ℕ) (K L : Laid) (done : emit_of (bytes_text rest) L ≡ emit_of (bytes_text bytes) K) where
-  pub bytes_put_holds : length rest ≤ 0 → L ≡ emit_of (bytes_text bytes) K
-  bytes_put_holds h = rw (no_byte rest h, emit_none) at done
+  pub next_byte : i < length bytes → (M : Laid) → M ≡ emit_of (hex_of 2 (get_or bytes i 0)) L →
+      emit_of (bytes_text (drop (i + 1) bytes)) M ≡ emit_of (bytes_text bytes) K
+  unfolding bytes_text
+  next_byte h M e = rw (e, add-one) (rw (drop-cons bytes i 0 h, emit_append) at done)
 
-  pub next_byte : 0 < length rest → (M : Laid) → M ≡ emit_of (hex_of 2 (get_or rest 0 0)) L →
-      emit_of (bytes_text (take (length rest - 1) (drop 1 rest))) M ≡ emit_of (bytes_text bytes) K
-  next_byte h M e = rw e (rw (first_byte rest h, emit_append) at done)
+pub ruleset buffer = (bytes_put_holds, next_byte)
 
 -- ---- a log in the form that was found
 pub in_form : (n : ℕ) (log : List ℕ) (f g : Form) (L M : Laid) → f ≡ g → M ≡ emit_of (log_text g n log) L → M ≡ emit_of (log_text f n log) L

@@ -11,40 +11,42 @@ use kinds::report;
 use window::Cursor;
 
 // How a log stands in the text: as access lines, or as a service page.
-#[derive(Clone, Copy)]
+#[derive(Clone, Copy, Debug, PartialEq, Eq)]
 pub enum Form {
     Lines,
     Page,
 }
 
-fn put_outcome(p: Cursor, o: Outcome, out: &mut [u8]) -> Cursor
-    ensures { laid result out.new ≡ emit_of (outcome_word o) (laid p out.old) }
+// By hand: as in `put_decimal`, `Display` promises its bytes for a `String` alone.
+fn outcome_word(o: Outcome) -> &'static [u8]
+    ensures { result.now ≡ outcome_word o }
 {
     match o {
-        Outcome::Done(_) => window::put_all(p, b"done", out),
-        Outcome::Bus => window::put_all(p, b"bus", out),
-        Outcome::Arbitration => window::put_all(p, b"arbitration", out),
-        Outcome::Nack => window::put_all(p, b"nack", out),
-        Outcome::Stopped => window::put_all(p, b"stopped", out),
-        Outcome::ExpectedWrite => window::put_all(p, b"expected-write", out),
-        Outcome::ExpectedRead => window::put_all(p, b"expected-read", out),
-        Outcome::EventRead(_) => window::put_all(p, b"event-read", out),
-        Outcome::EventWrite(_) => window::put_all(p, b"event-write", out),
-        Outcome::EventStop => window::put_all(p, b"event-stop", out),
+        Outcome::Done(_) => b"done",
+        Outcome::Bus => b"bus",
+        Outcome::Arbitration => b"arbitration",
+        Outcome::Nack => b"nack",
+        Outcome::Stopped => b"stopped",
+        Outcome::ExpectedWrite => b"expected-write",
+        Outcome::ExpectedRead => b"expected-read",
+        Outcome::EventRead(_) => b"event-read",
+        Outcome::EventWrite(_) => b"event-write",
+        Outcome::EventStop => b"event-stop",
     }
 }
 
-fn put_report(p: Cursor, r: Report, out: &mut [u8]) -> Cursor
-    ensures { laid result out.new ≡ emit_of (report_word r) (laid p out.old) }
+fn report_word(r: Report) -> &'static [u8]
+    ensures { result.now ≡ report_word r }
 {
     match r {
-        Report::Over(o) => put_outcome(p, o, out),
-        Report::Waiting(_) => window::put_all(p, b"waiting", out),
-        Report::Refused(_) => window::put_all(p, b"refused", out),
-        Report::Full => window::put_all(p, b"full", out),
+        Report::Over(o) => outcome_word(o),
+        Report::Waiting(_) => b"waiting",
+        Report::Refused(_) => b"refused",
+        Report::Full => b"full",
     }
 }
 
+// By hand: `write!` promises its bytes for a `String` alone, and fixed memory has none.
 fn put_decimal(p: Cursor, n: u64, out: &mut [u8]) -> Cursor
     ensures { laid result out.new ≡ emit_of (decimal_of n) (laid p out.old) }
 {
@@ -52,6 +54,7 @@ fn put_decimal(p: Cursor, n: u64, out: &mut [u8]) -> Cursor
     window::put_all(p, numerals::significant(&digits), out)
 }
 
+// By hand: a byte and a word have a function each in `numerals`, and what separates has a name as in the definition.
 fn put_byte(p: Cursor, b: u8, out: &mut [u8]) -> Cursor
     ensures { laid result out.new ≡ emit_of (hex_of 2 b) (laid p out.old) }
 {
@@ -85,15 +88,17 @@ fn put_number_field(p: Cursor, n: u64, out: &mut [u8]) -> Cursor
     put_decimal(p, n, out)
 }
 
+#[tactic(auto, using(window::proofs::Laid::then))]
 fn put_call_start(p: Cursor, n: u32, r: Report, out: &mut [u8]) -> Cursor
     ensures { laid result out.new ≡ emit_of (call_start n r) (laid p out.old) }
 {
     let p = put_decimal(p, n as u64, out);
     let p = put_space(p, out);
-    put_report(p, r, out)
+    window::put_all(p, report_word(r), out)
 }
 
 // The line of a call: its number, what came of it, the answers used and the accesses made.
+#[tactic(auto, unfolding(crate::specs::Lines::call_line), using(window::proofs::Laid::then))]
 pub fn put_call(
     p: Cursor,
     n: u32,
@@ -121,6 +126,7 @@ fn put_letter(p: Cursor, offset: u32, out: &mut [u8]) -> Cursor
     }
 }
 
+#[tactic(auto, unfolding(crate::specs::Lines::access_line), using(window::proofs::Laid::then))]
 fn put_access(p: Cursor, offset: u32, value: u32, out: &mut [u8]) -> Cursor
     ensures { laid result out.new ≡ emit_of (access_line offset value) (laid p out.old) }
 {
@@ -132,36 +138,39 @@ fn put_access(p: Cursor, offset: u32, value: u32, out: &mut [u8]) -> Cursor
 }
 
 // The lines of the entries that stand in a log's words.
+// By hand: the pattern names both words of an entry.
+#[tactic(auto, using(crate::proofs::Texts::entries))]
 fn put_accesses(p: Cursor, log: &[u32], out: &mut [u8]) -> Cursor
     ensures { laid result out.new ≡ emit_of (access_lines log.now) (laid p out.old) }
 {
     let mut q = p;
     let mut rest = log;
-    while rest.len() > 1 {
-        q = put_access(q, rest[0], rest[1], out);
-        rest = &rest[2..];
+    while let [offset, value, others @ ..] = rest {
+        q = put_access(q, *offset, *value, out);
+        rest = others;
     }
     q
 }
 
 // The entries of a log's words in one of the two forms; on a page the first has the number `first`.
+#[tactic(auto, unfolding(crate::specs::Lines::log_text))]
 pub fn put_log(p: Cursor, form: Form, first: u32, log: &[u32], out: &mut [u8]) -> Cursor
     ensures { laid result out.new ≡ emit_of (log_text form first log.now) (laid p out.old) }
 {
+    // By hand: who runs the program chooses the form, so a closure for it would be chosen by a `match` too.
     match form {
         Form::Lines => put_accesses(p, log, out),
         Form::Page => page::put_entries(p, first, log, out),
     }
 }
 
+#[tactic(auto, using(crate::proofs::Texts::buffer))]
 fn put_bytes(p: Cursor, bytes: &[u8], out: &mut [u8]) -> Cursor
     ensures { laid result out.new ≡ emit_of (bytes_text bytes.now) (laid p out.old) }
 {
     let mut q = p;
-    let mut rest = bytes;
-    while rest.len() > 0 {
-        q = put_byte(q, rest[0], out);
-        rest = &rest[1..];
+    for &b in bytes {
+        q = put_byte(q, b, out);
     }
     q
 }
@@ -175,10 +184,11 @@ fn put_full_buffer(p: Cursor, bytes: &[u8], out: &mut [u8]) -> Cursor
 }
 
 // The line of a buffer.
+#[tactic(auto, unfolding(crate::specs::Lines::buffer_line), using(crate::proofs::Texts::tests))]
 pub fn put_buffer(p: Cursor, bytes: &[u8], out: &mut [u8]) -> Cursor
     ensures { laid result out.new ≡ emit_of (buffer_line bytes.now) (laid p out.old) }
 {
-    if bytes.len() == 0 {
+    if bytes.is_empty() {
         window::put_all(p, b"b\n", out)
     } else {
         put_full_buffer(p, bytes, out)

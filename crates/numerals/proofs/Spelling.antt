@@ -1,16 +1,16 @@
 -- How the digits that are written and those that are left make up a number's text. Assumes nothing.
-use Prim.Native.Nat.{ℕ, zero, suc, ◌+◌, ◌-◌, ◌*◌, ◌/◌, ◌%◌, ◌^◌, ◌≤◌, ◌<◌}
+use Prim.Native.Nat.{ℕ, min, zero, suc, ◌+◌, ◌-◌, ◌*◌, ◌/◌, ◌%◌, ◌^◌, ◌≤◌, ◌<◌}
 use mathlib.Core.Path.{◌≡◌, refl, sym, ap, ◌∙◌}
-use mathlib.Core.Bool.{true, false}
-use mathlib.Core.List.{List, [], ◌∷◌, ◌++◌, append-nil}
+use mathlib.Core.Bool.{Bool, true, false, cond}
+use mathlib.Core.List.{List, [], ◌∷◌, ◌++◌}
 use native.Mathlib.Nat.{mod-lt, mul_comm, pow-succ', lt_of_lt_of_le, pow-le-pow_right}
 use native.Mathlib.Numerals.{unary_clauses}
 use native.Mathlib.Omega.{arith}
 use lib.Arith.{mod-mul}
 use lib.Dec.{eqb, lit<}
-use lib.ListN.{length, get_or, take, drop, set, length-append}
-use lib.Seq.{drop-cons, drop-length, take_all, append_snoc, get_or-set_same, drop-set-lt, lt-length-set}
-use borrow.Author.Tests.{eq-eqb, ne_eqb}
+use Rattle.std.specs.List.{prefix_len}
+use lib.ListN.{length, drop, set, length-append}
+use lib.Seq.{drop-cons, append_snoc, get_or-set_same, drop-set-lt, lt-length-set}
 use Rattle.numerals.specs.Numbers.{hex_digit_of, spelled_of, significant_of, decimal_of}
 
 pub below : (r base : ℕ) → 1 ≤ base → base ≤ 16 → r % base < 16
@@ -30,39 +30,20 @@ unfolding spelled_of
 ends base zero rest text all e h = e
 ends base (suc k) rest text all e h = absurd (omega arith)
 
-pub starts : (base n : ℕ) (text : List ℕ) → spelled_of base (length text) n ++ drop (length text) text ≡ spelled_of base (length text) n
-starts base n text = rw (drop-length text) (append-nil _)
-
 -- ---- the zeros in front
-last_stays : (t : List ℕ) → length t ≤ 1 → t ≡ significant_of t
+pub without_zeros : (s : List ℕ) → drop (min (prefix_len (λ d. eqb d 48) s) (length s - 1)) s ≡ significant_of s
 unfolding significant_of
-last_stays [] h = refl
-last_stays (d ∷ []) h = refl
-last_stays (d ∷ e ∷ t) h = absurd (omega arith)
-
-other_stays : (t : List ℕ) → 1 < length t → eqb (get_or t 0 0) 48 ≡ false → t ≡ significant_of t
-unfolding significant_of
-other_stays [] h n = refl
-other_stays (d ∷ []) h n = refl
-other_stays (d ∷ e ∷ t) h n = rw n
-
-zero_goes : (t : List ℕ) → 1 < length t → eqb (get_or t 0 0) 48 ≡ true → significant_of t ≡ significant_of (take (length t - 1) (drop 1 t))
-unfolding significant_of
-zero_goes [] h n = absurd (omega arith)
-zero_goes (d ∷ []) h n = absurd (omega arith)
-zero_goes (d ∷ e ∷ t) h n = rw (n, take_all (length (d ∷ e ∷ t) - 1) (e ∷ t) (omega arith))
-
-module _ (s rest : List ℕ) (passed : significant_of s ≡ significant_of rest) where
-  pub one_left : length rest ≤ 1 → rest ≡ significant_of s
-  one_left h = last_stays rest h ∙ sym passed
-
-  pub other : 1 < length rest → (get_or rest 0 0 ≡ 48 → ⊥) → rest ≡ significant_of s
-  other h n = other_stays rest h (ne_eqb (get_or rest 0 0) 48 n) ∙ sym passed
-
-  pub in_front : 1 < length rest → get_or rest 0 0 ≡ 48 → significant_of s ≡ significant_of (take (length rest - 1) (drop 1 rest))
-  in_front h n = passed ∙ zero_goes rest h (eq-eqb (get_or rest 0 0) 48 n)
-
-pub ruleset zeros = (one_left, other, in_front)
+without_zeros [] = refl
+without_zeros (d ∷ []) = (let n : min (prefix_len (λ d. eqb d 48) (d ∷ [])) 0 ≡ 0 = omega arith in rw n)
+without_zeros (d ∷ e ∷ s) = by (eqb d 48) (without_zeros (e ∷ s))
+  where
+    by : (q : Bool) → drop (min (prefix_len (λ d. eqb d 48) (e ∷ s)) (length (e ∷ s) - 1)) (e ∷ s) ≡ significant_of (e ∷ s) →
+        drop (min (cond q (1 + prefix_len (λ d. eqb d 48) (e ∷ s)) 0) (length (d ∷ e ∷ s) - 1)) (d ∷ e ∷ s) ≡ cond q (significant_of (e ∷ s)) (d ∷ e ∷ s)
+    by true h =
+        let p : ℕ = prefix_len (λ d. eqb d 48) (e ∷ s) in
+        let n : min (1 + p) (length (d ∷ e ∷ s) - 1) ≡ suc (min p (length (e ∷ s) - 1)) = omega arith in
+        rw n h
+    by false h = (let n : min 0 (length (d ∷ e ∷ s) - 1) ≡ 0 = omega arith in rw n)
 
 -- ---- a number that k digits hold has a zero as digit k + 1, so ten digits tell as much as twenty
 pub length_spelled : (base k n : ℕ) → length (spelled_of base k n) ≡ k

@@ -1,7 +1,5 @@
 -- Numbers as text, a list of ASCII codes with the highest digit first. Assumes nothing.
-use Rattle.std.specs.Prelude.{ℕ, zero, suc, ◌+◌, ◌-◌, ◌*◌, ◌/◌, ◌%◌, Bool, true, cond, ◌&&◌, ◌||◌, List, [], ◌∷◌, ◌++◌, eqb, leb, ltb, length, get_or, drop}
-use Rattle.numerals.specs.declared.Parsed.{Parsed}
-use Rattle.numerals.specs.declared.Parsed.TheVariants.{Number, NotNumber}
+use Rattle.std.specs.Prelude.{ℕ, zero, suc, ◌+◌, ◌-◌, ◌*◌, ◌/◌, ◌%◌, Bool, true, cond, ◌&&◌, ◌||◌, List, [], ◌∷◌, ◌++◌, eqb, leb, ltb, length, get_or, drop, Option, Some, None}
 
 -- what a digit stands for: `0` to `9` are 48 to 57, `A` to `F` 65 to 70, `a` to `f` 97 to 102; 16, a digit in no base, for any other byte
 unfoldable pub digit_of : ℕ → ℕ
@@ -23,16 +21,16 @@ value_after base v [] = v
 value_after base v (b ∷ s) = value_after base (v * base + digit_of b) s
 
 -- one digit or more, of a value that 32 bits hold
-unfoldable pub number_of : ℕ → List ℕ → Parsed
+unfoldable pub number_of : ℕ → List ℕ → Option ℕ
 number_of base s =
     let v = value_after base 0 s in
-    cond (ltb 0 (length s) && (all_digits base s && leb v 4294967295)) (Number v) NotNumber
+    cond (ltb 0 (length s) && (all_digits base s && leb v 4294967295)) (Some v) None
 
 -- s begins with `0` (48) and `x` (120) or `X` (88)
 unfoldable pub is_hex : List ℕ → Bool
 is_hex s = leb 2 (length s) && (eqb (get_or s 0 0) 48 && (eqb (get_or s 1 0) 120 || eqb (get_or s 1 0) 88))
 
-unfoldable pub parsed_of : List ℕ → Parsed
+unfoldable pub parsed_of : List ℕ → Option ℕ
 parsed_of s = cond (is_hex s) (number_of 16 (drop 2 s)) (number_of 10 s)
 
 -- the digit for a number below 16, the letters capital

@@ -1,4 +1,5 @@
 -- What stands from column 31 on in the lines of an entry gives its value back. Assumes nothing.
+use Rattle.std.specs.Prelude.{Some}
 use Prim.Native.Nat.{ℕ, zero, suc, ◌+◌, ◌-◌, ◌^◌, ◌<◌}
 use native.Mathlib.Nat.{mod-eq_of_lt, le_refl}
 use mathlib.Core.Path.{◌≡◌, sym, ap, ◌∙◌}
@@ -16,11 +17,11 @@ use Rattle.window.specs.Codes.{codes}
 use Rattle.page.specs.Back.{field_columns, tokens_in, sum_of, value_in}
 use Rattle.page.specs.Page.{access_of, register_lines, head_of, lines_from, entry_lines}
 use Rattle.page.specs.Tokens.{Token, flag_tokens, number_tokens, field_tokens, bit_tokens, above, tokens_below, tokens_of}
-use Rattle.page.specs.declared.Access.TheVariants.{Read, Write}
 use Rattle.page.proofs.Split.{unbroken, solid, EachSolid, laid_tokens}
 use Rattle.page.proofs.Decimal.{decimal_solid, unbroken_append}
 use Rattle.page.proofs.Lines.{Name, name_by, length_head}
 use Rattle.page.proofs.Worth.{known, other_names, descend, below_sum}
+use Rattle.page.specs.declared.Access.TheVariants.{Read, Write}
 
 -- what the proofs ask of a register's fields, one computed test a register
 tested : (r : Register) → T (other_names (fields_of r) && descend (fields_of r) 32 (fields_of r))
@@ -96,10 +97,10 @@ of_register n done r value h l =
     ap (sum_of fs) tokens ∙ below_sum fs value 32 fs both.0 both.1 (le_refl 32) ∙ mod-eq_of_lt l
 
 module _ (n code value : ℕ) (r : Register) (small : value < 2 ^ 32) where
-  pub value_read : access_of code ≡ Read r → value_in r (field_columns (entry_lines n code value)) ≡ value
+  pub value_read : access_of code ≡ Some (Read r) → value_in r (field_columns (entry_lines n code value)) ≡ value
   unfolding entry_lines
   value_read e = rw e (of_register n (codes "read") r value (name_by 5 (codes "read") tt) small)
 
-  pub value_written : access_of code ≡ Write r → value_in r (field_columns (entry_lines n code value)) ≡ value
+  pub value_written : access_of code ≡ Some (Write r) → value_in r (field_columns (entry_lines n code value)) ≡ value
   unfolding entry_lines
   value_written e = rw e (of_register n (codes "write") r value (name_by 5 (codes "write") tt) small)

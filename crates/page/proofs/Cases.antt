@@ -1,4 +1,5 @@
 -- Worked pages, which antt computes: the six entries of issue 19, document 01's run, and what is no entry. Assumes nothing.
+use Rattle.std.specs.Prelude.{None, Err}
 use Prim.Native.Nat.{ℕ}
 use Prim.Native.String.{String}
 use mathlib.Core.Path.{◌≡◌, refl}
@@ -9,7 +10,6 @@ use Rattle.numerals.specs.Numbers.{hex_digit_of, spelled_of, significant_of}
 use Rattle.window.specs.Codes.{codes}
 use Rattle.page.specs.Page.{access_of, filled, head_of, lines_from, entry_lines, lines_of, text_of, page_of, fault_from}
 use Rattle.page.specs.Tokens.{flag_tokens, number_tokens, bit_tokens, tokens_below}
-use Rattle.page.specs.declared.Access.TheVariants.{Unknown}
 use Rattle.page.specs.declared.Fault.TheVariants.{NotWhole, UnknownCode}
 
 abbrev lines : List String → List (List ℕ)
@@ -47,8 +47,8 @@ unfolding lines_of entry_lines access_of head_of lines_from text_of tokens_below
 pages = (refl, refl, refl, refl)
 
 -- no register's offset, a write's twice over, a higher bit set; a log that ends within an entry; the first fault counts
-no_entries : (map access_of (0x14 ∷ 0x20 ∷ 0x218 ∷ 0x80000018 ∷ []) ≡ replicate 4 Unknown)
-    × (map (fault_from 1) ((4 ∷ []) ∷ (4 ∷ 0 ∷ 0x18 ∷ []) ∷ []) ≡ replicate 2 NotWhole)
-    × (fault_from 1 (4 ∷ 0 ∷ 0x14 ∷ 0 ∷ 0x18 ∷ []) ≡ UnknownCode 2)
+no_entries : (map access_of (0x14 ∷ 0x20 ∷ 0x218 ∷ 0x80000018 ∷ []) ≡ replicate 4 None)
+    × (map (fault_from 1) ((4 ∷ []) ∷ (4 ∷ 0 ∷ 0x18 ∷ []) ∷ []) ≡ replicate 2 (Err NotWhole))
+    × (fault_from 1 (4 ∷ 0 ∷ 0x14 ∷ 0 ∷ 0x18 ∷ []) ≡ Err (UnknownCode 2))
 unfolding fault_from access_of
 no_entries = (refl, refl, refl)

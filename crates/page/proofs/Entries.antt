@@ -1,4 +1,5 @@
 -- The text of an entry: its head, its tokens on lines, and how much it is. Assumes nothing.
+use Rattle.std.specs.Prelude.{Option, Some, None}
 use Prim.Native.Nat.{ℕ, suc, ◌+◌, ◌-◌, ◌≤◌}
 use native.Mathlib.Omega.{arith}
 use Prim.Native.String.{String}
@@ -22,13 +23,13 @@ use Rattle.window.proofs.Laid.{then, emit_append, emit_none, left_out}
 use Rattle.page.specs.Page.{access_of, spaces, filled, head_of, lines_from, register_lines, access_lines, entry_lines, text_of}
 use Rattle.page.specs.Put.{Put, ending, room_put, add_put, token_put, tokens_put, below, bits_put, flag_put, number_put, done_of, label_of, labels_of, fitting, field_put, fields_put, name_of}
 use Rattle.page.specs.Tokens.{Token, flag_tokens, number_tokens, field_tokens, bit_tokens, above, tokens_below, tokens_of}
-use Rattle.page.specs.declared.Access.{Access}
-use Rattle.page.specs.declared.Access.TheVariants.{Read, Write, Unknown}
 use Rattle.page.proofs.Lines.{Name, name_by, length_head, few_lines}
 use Rattle.page.proofs.Putting.{tokens_append}
+use Rattle.page.specs.declared.Access.{Access}
+use Rattle.page.specs.declared.Access.TheVariants.{Read, Write}
 
 -- ---- the code of an access
-pub coded : (code k : ℕ) (a : Access) → code ≡ k → access_of k ≡ a → a ≡ access_of code
+pub coded : (code k : ℕ) (a : Option Access) → code ≡ k → access_of k ≡ a → a ≡ access_of code
 coded code k a e f = sym f ∙ ap access_of (sym e)
 
 -- ---- what was done, with the space after it
@@ -177,14 +178,14 @@ lines_put n value write r K L M S e f g =
     ∙ emit_append head (tail_of 29 ts) K
     ∙ ap (emit_of (tail_of 29 ts)) (sym e))
 
-module _ (n value : ℕ) (a : Access) (K M : Laid) where
-  pub access_read : (r : Register) → a ≡ Read r → M ≡ emit_of (text_of (register_lines n (done_of false) r value)) K → M ≡ emit_of (text_of (access_lines n a value)) K
+module _ (n value : ℕ) (a : Option Access) (K M : Laid) where
+  pub access_read : (r : Register) → a ≡ Some (Read r) → M ≡ emit_of (text_of (register_lines n (done_of false) r value)) K → M ≡ emit_of (text_of (access_lines n a value)) K
   access_read r e f = rw e f
 
-  pub access_written : (r : Register) → a ≡ Write r → M ≡ emit_of (text_of (register_lines n (done_of true) r value)) K → M ≡ emit_of (text_of (access_lines n a value)) K
+  pub access_written : (r : Register) → a ≡ Some (Write r) → M ≡ emit_of (text_of (register_lines n (done_of true) r value)) K → M ≡ emit_of (text_of (access_lines n a value)) K
   access_written r e f = rw e f
 
-  pub no_access : a ≡ Unknown → K ≡ emit_of (text_of (access_lines n a value)) K
+  pub no_access : a ≡ None → K ≡ emit_of (text_of (access_lines n a value)) K
   unfolding text_of
   no_access e = rw (e, emit_none)
 

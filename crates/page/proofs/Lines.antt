@@ -1,4 +1,5 @@
 -- The lines of an entry: each has 80 columns, and an entry has at most five. Assumes nothing.
+use Rattle.std.specs.Prelude.{Option, Some, None}
 use Prim.Native.Nat.{ℕ, ◌+◌, ◌*◌, ◌≤◌}
 use native.Mathlib.Omega.{arith}
 use mathlib.Core.Path.{◌≡◌, refl}
@@ -16,11 +17,11 @@ use Rattle.window.specs.Codes.{codes}
 use Rattle.page.specs.Page.{access_of, spaces, filled, head_of, lines_from, register_lines, access_lines, entry_lines, lines_of, text_of}
 use Rattle.page.specs.Promises.{Printable, Lines}
 use Rattle.page.specs.Tokens.{Token, tokens_of}
-use Rattle.page.specs.declared.Access.{Access}
-use Rattle.page.specs.declared.Access.TheVariants.{Read, Write, Unknown}
 use Rattle.page.proofs.Sizes.{total, Each, Sized, register_sized}
 use Rattle.numerals.proofs.Spelling.{length_spelled}
 use Rattle.page.proofs.Texts.{length_filled, printable, printed, print_append, print_spaces, print_filled, print_spelled}
+use Rattle.page.specs.declared.Access.{Access}
+use Rattle.page.specs.declared.Access.TheVariants.{Read, Write}
 
 -- ---- the head has 29 characters
 pub record Name (name : List ℕ) (n : ℕ) : Type 0 where
@@ -109,15 +110,15 @@ module _ (n : ℕ) (done : List ℕ) (r : Register) (value : ℕ) (d : Name done
   register_lines_holds =
       lines_from_holds (head_of n done r value) (tokens_of r value) (omega (arith, length_head n done r value d)) (print_head n done r value d) (register_sized r value).each
 
-access_few : (n : ℕ) (a : Access) (value : ℕ) → length (access_lines n a value) ≤ 5
-access_few n (Read r) value = register_few n (codes "read") r value (name_by 5 (codes "read") tt)
-access_few n (Write r) value = register_few n (codes "write") r value (name_by 5 (codes "write") tt)
-access_few n Unknown value = lit≤ tt
+access_few : (n : ℕ) (a : Option Access) (value : ℕ) → length (access_lines n a value) ≤ 5
+access_few n (Some (Read r)) value = register_few n (codes "read") r value (name_by 5 (codes "read") tt)
+access_few n (Some (Write r)) value = register_few n (codes "write") r value (name_by 5 (codes "write") tt)
+access_few n None value = lit≤ tt
 
-access_lines_holds : (n : ℕ) (a : Access) (value : ℕ) → Lines (access_lines n a value)
-access_lines_holds n (Read r) value = register_lines_holds n (codes "read") r value (name_by 5 (codes "read") tt)
-access_lines_holds n (Write r) value = register_lines_holds n (codes "write") r value (name_by 5 (codes "write") tt)
-access_lines_holds n Unknown value = tt
+access_lines_holds : (n : ℕ) (a : Option Access) (value : ℕ) → Lines (access_lines n a value)
+access_lines_holds n (Some (Read r)) value = register_lines_holds n (codes "read") r value (name_by 5 (codes "read") tt)
+access_lines_holds n (Some (Write r)) value = register_lines_holds n (codes "write") r value (name_by 5 (codes "write") tt)
+access_lines_holds n None value = tt
 
 pub entry_lines_holds : (n code value : ℕ) → Lines (entry_lines n code value)
 unfolding entry_lines

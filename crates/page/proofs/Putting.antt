@@ -9,18 +9,15 @@ use lib.ListN.{length, length-append}
 use borrow.Author.Tests.{le-leb, lt-leb, le-ltb, lt-ltb, eq-eqb, ne_eqb}
 use Rattle.fields.specs.Field.{place, bit, get_of, flag_of}
 use Rattle.numerals.proofs.Spelling.{length_spelled}
-use Rattle.numerals.specs.Numbers.{parsed_of, spelled_of, significant_of, decimal_of}
+use Rattle.numerals.specs.Numbers.{spelled_of, significant_of, decimal_of}
 use Rattle.numerals.specs.Words.{first_word, after_word}
-use Rattle.numerals.specs.declared.Parsed.{Parsed}
-use Rattle.numerals.specs.declared.Parsed.TheVariants.{Number, NotNumber}
 use Rattle.registers.specs.declared.Register.{Register}
 use Rattle.window.specs.Codes.{codes}
 use Rattle.window.specs.Window.{Laid, emit_of}
 use Rattle.window.proofs.Laid.{then}
 use Rattle.page.specs.Page.{spaces}
-use Rattle.page.specs.Put.{Put, as_put, ending, room_put, add_put, token_put, tokens_put, below, bits_put, flag_put, number_put, Labelled, labelled, number_in, fields_in, labels_of, field_put, fields_put}
+use Rattle.page.specs.Put.{Put, ending, room_put, add_put, token_put, tokens_put, below, bits_put, flag_put, number_put, Labelled, labelled, number_in, fields_in, labels_of, field_put, fields_put}
 use Rattle.page.specs.Tokens.{Token, flag_tokens, bit_tokens}
-use Rattle.page.specs.declared.line.Line.{Line}
 
 abbrev put : Laid → ℕ → ℕ → Put
 put text column top = record { text = text; column = column; top = top }
@@ -90,29 +87,18 @@ module _ (value low top : ℕ) (s S : Put) (done : tokens_put (bit_tokens value 
       rw (m, e, f) (rw (a, b, tokens_append) at done)
 
 -- ---- a field, after the bits above it
-module _ (l m : Line) (top : ℕ) (lowered : m ≡ record { place = l.place; column = l.column; top = top }) where
-  pub same_column : l.column ≤ 80 → m.column ≤ 80
-  same_column h = rw lowered h
+module _ (value top : ℕ) (s B A : Put) where
+  pub flag_put_holds : (name : List ℕ) → B ≡ bits_put value (top + 1) s → A ≡ tokens_put (flag_tokens value (name ++ []) (bit top)) B →
+      below top A ≡ flag_put value name top s
+  unfolding flag_put
+  flag_put_holds name e f = rw (← e) (ap (below top) (rw append-nil at f))
 
-  module _ (value : ℕ) (s : Put) (k : Line) (before after : List ℕ) where
-    pub flag_put_holds : (name : List ℕ) → as_put k before ≡ bits_put value (top + 1) s →
-        as_put l after ≡ tokens_put (flag_tokens value (name ++ []) (bit top)) (as_put k before) → as_put m after ≡ flag_put value name top s
-    unfolding flag_put
-    flag_put_holds name e f = rw (lowered, ← e) (ap (below top) (rw append-nil at f))
+  pub number_put_holds : (label d g : List ℕ) (width n : ℕ) → B ≡ bits_put value (top + width) s → d ≡ significant_of g →
+      significant_of g ≡ decimal_of n → n ≡ get_of value (place top width) → A ≡ token_put (label ++ d) B → below top A ≡ number_put value label top width s
+  unfolding number_put
+  number_put_holds label d g width n e p q r f = rw (← e, ← r, ← q, ← p) (ap (below top) f)
 
-    pub number_put_holds : (label d g : List ℕ) (width n : ℕ) → as_put k before ≡ bits_put value (top + width) s →
-        d ≡ significant_of g → significant_of g ≡ decimal_of n → n ≡ get_of value (place top width) →
-        as_put l after ≡ token_put (label ++ d) (as_put k before) → as_put m after ≡ number_put value label top width s
-    unfolding number_put
-    number_put_holds label d g width n e p q r f = rw (lowered, ← e, ← r, ← q, ← p) (ap (below top) f)
-
--- ---- a register's fields, those of `left` words of the text `rest` still to come
-pub parsed_number : (n : ℕ) (w s : List ℕ) (p : Parsed) → w ≡ first_word s → p ≡ parsed_of w → p ≡ Number n → n ≡ number_in s
-parsed_number n w s p e f g = rw (← e, ← f, g)
-
-pub no_number : (w s : List ℕ) (p : Parsed) → w ≡ first_word s → p ≡ parsed_of w → p ≡ NotNumber → 0 ≡ number_in s
-no_number w s p e f g = rw (← e, ← f, g)
-
+-- ---- a register's fields, of which k are put, and the text `rest` tells the others
 module _ (value at width : ℕ) (label : List ℕ) (s : Put) where
   pub too_high : 32 ≤ at → s ≡ field_put value (labelled at width label) s
   unfolding field_put
@@ -138,16 +124,16 @@ module _ (value at width : ℕ) (label : List ℕ) (s : Put) where
 
 pub ruleset field-cases = (too_high, too_wide_holds, too_long, a_flag, a_number)
 
-module _ (value left : ℕ) (rest : List ℕ) (s S : Put) (done : fields_put value (fields_in left rest) s ≡ S) where
-  pub fields_shown : left ≤ 0 → (T : Put) → T ≡ bits_put value 0 s → T ≡ S
+module _ (value n k : ℕ) (rest : List ℕ) (s S : Put) (done : fields_put value (fields_in (n - k) rest) s ≡ S) where
+  pub fields_shown : n ≤ k → (T : Put) → T ≡ bits_put value 0 s → T ≡ S
   unfolding fields_put fields_in
-  fields_shown h T e = e ∙ (let z : left ≡ 0 = omega arith in rw z at done)
+  fields_shown h T e = e ∙ (let z : n - k ≡ 0 = omega arith in rw z at done)
 
-  pub next_field : 0 < left → (at width : ℕ) (label t u v : List ℕ) → t ≡ after_word rest → u ≡ after_word t → at ≡ number_in rest → width ≡ number_in t →
-      label ≡ first_word u → v ≡ after_word u → (N : Put) → N ≡ field_put value (labelled at width label) s → fields_put value (fields_in (left - 1) v) N ≡ S
+  pub next_field : k < n → (at width : ℕ) (label t u v : List ℕ) → t ≡ after_word rest → u ≡ after_word t → at ≡ number_in rest → width ≡ number_in t →
+      label ≡ first_word u → v ≡ after_word u → (N : Put) → N ≡ field_put value (labelled at width label) s → fields_put value (fields_in (n - (k + 1)) v) N ≡ S
   unfolding fields_put fields_in
   next_field h at width label t u v a b c d e f N g =
-      let z : left ≡ suc (left - 1) = omega arith in
+      let z : n - k ≡ suc (n - (k + 1)) = omega arith in
       rw (g, c, d, e, f, b, a) (rw z at done)
 
 -- the fields of a register that was found to be q

@@ -1,6 +1,7 @@
--- What the contracts of `lay_out`, `fault_in`, `put_entries`, `Page::refusal` and `Page::length` give a caller, and what is promised of
+-- What the contracts of `lay_out`, `fault_in`, `put_entries`, `refusal` and `length` give a caller, and what is promised of
 -- pages, once more and in plain numbers. Nothing rests on this file: a contract or a promise that loses a part, and its proof with it,
 -- fails here. Assumes nothing.
+use Rattle.std.specs.Prelude.{Option, Some, None, Ok, Err}
 use Prim.Native.Nat.{ℕ, zero, suc, ◌+◌, ◌-◌, ◌*◌, ◌/◌, ◌%◌, ◌≤◌, ◌<◌}
 use native.Mathlib.Nat.{add-zero}
 use native.Mathlib.Omega.{arith}
@@ -33,10 +34,6 @@ use Rattle.page.specs.Back.{field_columns, worth, value_in}
 use Rattle.page.specs.Page.{access_in, access_of, filled, head_of, lines_from, entry_lines, lines_of, text_of, entries_text, page_of, is_known, fault_from, fault_of, Left, left, page_in, page_refusal, page_length}
 use Rattle.page.specs.Promises.{Printable, Lines, EachKnown}
 use Rattle.page.specs.Tokens.{flag_tokens, bit_tokens, tokens_below}
-use Rattle.page.specs.declared.Access.{Access}
-use Rattle.page.specs.declared.Access.TheVariants.{Read, Write, Unknown}
-use Rattle.page.specs.declared.Fault.TheVariants.{Nothing, NotWhole, UnknownCode}
-use Rattle.page.specs.declared.Page.TheVariants.{Laid, Refused}
 use Rattle.page.proofs.Promised.{page_promises}
 use Rattle.page.proofs.Same.{text_append, entries}
 use Rattle.page.specs.contracts.fault_in as fault-in
@@ -45,10 +42,13 @@ use Rattle.page.specs.contracts.lay_out as lay-out
 use Rattle.page.proofs.lay_out.Reads as lay-out-reads
 use Rattle.page.specs.contracts.put_entries as put_entries
 use Rattle.page.proofs.put_entries.Reads as put-entries-reads
-use Rattle.page.specs.contracts.Page.refusal as refusal
-use Rattle.page.proofs.Page.refusal.Reads as refusal-reads
-use Rattle.page.specs.contracts.Page.length as page-length
-use Rattle.page.proofs.Page.length.Reads as page-length-reads
+use Rattle.page.specs.contracts.refusal as refusal
+use Rattle.page.proofs.refusal.Reads as refusal-reads
+use Rattle.page.specs.contracts.length as page-length
+use Rattle.page.proofs.length.Reads as page-length-reads
+use Rattle.page.specs.declared.Access.{Access}
+use Rattle.page.specs.declared.Access.TheVariants.{Read, Write}
+use Rattle.page.specs.declared.Fault.TheVariants.{NotWhole, UnknownCode}
 
 -- ---- No function asks anything of its caller.
 
@@ -113,7 +113,7 @@ among c [] = refl
 among c (r ∷ rs) = by (eqb c (offset_of r)) (eqb c (offset_of r + 0x100)) (among c rs)
   where
     by : (p q : Bool) → is_known (access_in c rs) ≡ one_of c (codes_of rs) →
-        is_known (cond p (Read r) (cond q (Write r) (access_in c rs))) ≡ (p || (q || one_of c (codes_of rs)))
+        is_known (cond p (Some (Read r)) (cond q (Some (Write r)) (access_in c rs))) ≡ (p || (q || one_of c (codes_of rs)))
     by true q e = refl
     by false true e = refl
     by false false e = e
@@ -153,7 +153,7 @@ each_known (code ∷ value ∷ log) K = (
 -- ---- What is wrong with a log: it ends within an entry, or an entry has none of these codes, and then the first such entry counts.
 
 faults : (n k : ℕ) (ws : List ℕ) → 2 * k + 1 < length ws → ((i : ℕ) → i < k → is_code (get_or ws (2 * i) 0) ≡ true) → is_code (get_or ws (2 * k) 0) ≡ false →
-    fault_from n ws ≡ UnknownCode (n + k)
+    fault_from n ws ≡ Err (UnknownCode (n + k))
 unfolding fault_from
 faults n k [] h f u = absurd (omega arith)
 faults n k (w ∷ []) h f u = absurd (omega arith)
@@ -169,28 +169,28 @@ module _ (C : FaultCall) where
   abbrev bytes : List ℕ
   bytes = C.given.0.now
 
-  not_whole : length bytes % 8 ≢ 0 → C.gave ≡ NotWhole
+  not_whole : length bytes % 8 ≢ 0 → C.gave ≡ Err NotWhole
   unfolding fault_of
   not_whole h = C.contract ∙ rw (ne_eqb (length bytes % 8) 0 h)
 
-  twelve : length bytes ≡ 12 → C.gave ≡ NotWhole
+  twelve : length bytes ≡ 12 → C.gave ≡ Err NotWhole
   twelve h = not_whole (λ e. omega arith)
 
   -- entry k + 1 is the first with another code
   no_code : (k : ℕ) → length bytes % 8 ≡ 0 → k < length bytes / 8 → ((i : ℕ) → i < k → is_code (get_or (words_in bytes) (2 * i) 0) ≡ true) →
-      is_code (get_or (words_in bytes) (2 * k) 0) ≡ false → C.gave ≡ UnknownCode (1 + k)
+      is_code (get_or (words_in bytes) (2 * k) 0) ≡ false → C.gave ≡ Err (UnknownCode (1 + k))
   unfolding fault_of
   no_code k h l f u = C.contract ∙ rw (eq-eqb (length bytes % 8) 0 h) (faults 1 k (words_in bytes) (omega (arith, in_words bytes)) f u)
 
-  sound : length bytes % 8 ≡ 0 → Known (words_in bytes) → C.gave ≡ Nothing
+  sound : length bytes % 8 ≡ 0 → Known (words_in bytes) → C.gave ≡ Ok tt
   unfolding fault_of
   sound h K = C.contract ∙ rw (eq-eqb (length bytes % 8) 0 h) (page_promises.only_so 1 (words_in bytes) (each_known (words_in bytes) K))
 
-  only_so : C.gave ≡ Nothing → (length bytes % 8 ≡ 0) × Known (words_in bytes)
+  only_so : C.gave ≡ Ok tt → (length bytes % 8 ≡ 0) × Known (words_in bytes)
   unfolding fault_of
   only_so e = by (eqb (length bytes % 8) 0) (eqb-true (length bytes % 8) 0) (sym C.contract ∙ e)
     where
-      by : (b : Bool) → (b ≡ true → length bytes % 8 ≡ 0) → cond b (fault_from 1 (words_in bytes)) NotWhole ≡ Nothing → (length bytes % 8 ≡ 0) × Known (words_in bytes)
+      by : (b : Bool) → (b ≡ true → length bytes % 8 ≡ 0) → cond b (fault_from 1 (words_in bytes)) (Err NotWhole) ≡ Ok tt → (length bytes % 8 ≡ 0) × Known (words_in bytes)
       by true h f = (h refl, known (words_in bytes) (page_promises.sound 1 (words_in bytes) f))
       by false h f = let z : ◌≡◌ {A = ℕ} 0 1 = cc in absurd (omega arith)
 
@@ -247,15 +247,15 @@ module _ (n : ℕ) (log : List ℕ) where
 
 -- ---- Two small pages: of no entry, and of a write of 0 to ICR.
 
-no_page : (out : List ℕ) → page_in [] out ≡ left (Laid 0) out
+no_page : (out : List ℕ) → page_in [] out ≡ left (Some 0) out
 unfolding page_in fault_of fault_from words_in lines_of text_of
 no_page out = rw (le-leb 0 (length out) (omega arith))
 
-icr_page : (out : List ℕ) (n : ℕ) → length out ≡ n → (page_in (0x1C ∷ 0x01 ∷ 0 ∷ 0 ∷ 0 ∷ 0 ∷ 0 ∷ 0 ∷ []) out).page ≡ cond (leb 81 n) (Laid 81) Refused
+icr_page : (out : List ℕ) (n : ℕ) → length out ≡ n → (page_in (0x1C ∷ 0x01 ∷ 0 ∷ 0 ∷ 0 ∷ 0 ∷ 0 ∷ 0 ∷ []) out).page ≡ cond (leb 81 n) (Some 81) None
 unfolding page_in fault_of fault_from words_in access_of lines_of entry_lines head_of lines_from text_of tokens_below bit_tokens flag_tokens get_of bits_at spelled_of hex_digit_of
 icr_page out n e = rw e (by (leb 81 n) _)
   where
-    by : (b : Bool) (l : List ℕ) → (cond b (left (Laid 81) l) (left Refused out)).page ≡ cond b (Laid 81) Refused
+    by : (b : Bool) (l : List ℕ) → (cond b (left (Some 81) l) (left None out)).page ≡ cond b (Some 81) None
     by true l = refl
     by false l = refl
 
@@ -282,83 +282,83 @@ module _ (C : LayCall) where
   left_buffer = ap (λ (L : Left). L.buffer) C.contract
 
   accepted : length log % 8 ≡ 0 → Known (words_in log) → length page ≤ length out →
-      (C.gave ≡ Laid (length page)) × (out' ≡ page ++ drop (length page) out)
+      (C.gave ≡ Some (length page)) × (out' ≡ page ++ drop (length page) out)
   accepted h K l =
       let e = page_promises.accepted log out h (each_known (words_in log) K) l in
       (gave_page ∙ ap (λ (L : Left). L.page) e, left_buffer ∙ ap (λ (L : Left). L.buffer) e)
 
-  only_then : (n : ℕ) → C.gave ≡ Laid n → (length log % 8 ≡ 0) × Known (words_in log) × (length page ≤ length out)
+  only_then : (n : ℕ) → C.gave ≡ Some n → (length log % 8 ≡ 0) × Known (words_in log) × (length page ≤ length out)
   only_then n e =
       let z = page_promises.only_then log out n (sym gave_page ∙ e) in
       (z.0, known (words_in log) z.1, z.2)
 
-  laid_out_holds : (n : ℕ) → C.gave ≡ Laid n → (n ≡ length page) × (n ≤ length out) × (out' ≡ page ++ drop n out)
+  laid_out_holds : (n : ℕ) → C.gave ≡ Some n → (n ≡ length page) × (n ≤ length out) × (out' ≡ page ++ drop n out)
   laid_out_holds n e =
       let z = only_then n e in
       let a = accepted z.0 z.1 z.2 in
-      let f : C.gave ≡ Laid (length page) = a.0 in
+      let f : C.gave ≡ Some (length page) = a.0 in
       let m : n ≡ length page = cc in
       (m, rw m z.2, rw m a.1)
 
-  its_bytes : (n : ℕ) → C.gave ≡ Laid n → take n out' ≡ page
+  its_bytes : (n : ℕ) → C.gave ≡ Some n → take n out' ≡ page
   its_bytes n e =
       let l = laid_out_holds n e in
       ap (take n) l.2 ∙ rw l.0 (take-append_seam page (drop (length page) out))
 
-  bytes_after : (n : ℕ) → C.gave ≡ Laid n → (length out' ≡ length out) × (drop n out' ≡ drop n out)
+  bytes_after : (n : ℕ) → C.gave ≡ Some n → (length out' ≡ length out) × (drop n out' ≡ drop n out)
   bytes_after n e =
       let l = laid_out_holds n e in (
         ap length l.2 ∙ simp (length-append, length-drop) (omega (arith, l.0, l.1)),
         ap (drop n) l.2 ∙ rw l.0 (drop-append_seam page (drop (length page) out)),
       )
 
-  bytes_as_lent : C.gave ≡ Refused → out' ≡ out
+  bytes_as_lent : C.gave ≡ None → out' ≡ out
   bytes_as_lent e = left_buffer ∙ page_promises.unchanged log out (sym gave_page ∙ e)
 
-  why_refused : C.gave ≡ Refused → length log % 8 ≡ 0 → Known (words_in log) → length out < length page
+  why_refused : C.gave ≡ None → length log % 8 ≡ 0 → Known (words_in log) → length out < length page
   why_refused e h K = by (leb (length page) (length out)) refl
     where
       by : (b : Bool) → leb (length page) (length out) ≡ b → length out < length page
       by true t =
-          let f : C.gave ≡ Laid (length page) = (accepted h K (leb-true (length page) (length out) t)).0 in
+          let f : C.gave ≡ Some (length page) = (accepted h K (leb-true (length page) (length out) t)).0 in
           let z : ◌≡◌ {A = ℕ} 0 1 = cc in
           absurd (omega arith)
       by false t = leb-false (length page) (length out) t
 
   -- 405 bytes for each entry are room enough
-  room_enough : length log % 8 ≡ 0 → Known (words_in log) → 405 * (length log / 8) ≤ length out → C.gave ≡ Laid (length page)
+  room_enough : length log % 8 ≡ 0 → Known (words_in log) → 405 * (length log / 8) ≤ length out → C.gave ≡ Some (length page)
   room_enough h K l = (accepted h K (omega (arith, few_bytes 1 (words_in log), in_words log))).0
 
   -- an empty log has an empty page, which an empty buffer holds
-  empty_log : log ≡ [] → (C.gave ≡ Laid 0) × (out' ≡ out)
+  empty_log : log ≡ [] → (C.gave ≡ Some 0) × (out' ≡ out)
   empty_log e =
-      let f : page_in log out ≡ left (Laid 0) out = ap (λ (l : List ℕ). page_in l out) e ∙ no_page out in
+      let f : page_in log out ≡ left (Some 0) out = ap (λ (l : List ℕ). page_in l out) e ∙ no_page out in
       (gave_page ∙ ap (λ (L : Left). L.page) f, left_buffer ∙ ap (λ (L : Left). L.buffer) f)
 
   -- a write of 0 to ICR takes one line: 81 bytes are enough, 80 are not
-  one_line : log ≡ 0x1C ∷ 0x01 ∷ 0 ∷ 0 ∷ 0 ∷ 0 ∷ 0 ∷ 0 ∷ [] → (length out ≡ 81 → C.gave ≡ Laid 81) × (length out ≡ 80 → C.gave ≡ Refused)
+  one_line : log ≡ 0x1C ∷ 0x01 ∷ 0 ∷ 0 ∷ 0 ∷ 0 ∷ 0 ∷ 0 ∷ [] → (length out ≡ 81 → C.gave ≡ Some 81) × (length out ≡ 80 → C.gave ≡ None)
   one_line e =
       let f : C.gave ≡ (page_in (0x1C ∷ 0x01 ∷ 0 ∷ 0 ∷ 0 ∷ 0 ∷ 0 ∷ 0 ∷ []) out).page = gave_page ∙ ap (λ (l : List ℕ). (page_in l out).page) e in
       (λ l. f ∙ icr_page out 81 l, λ l. f ∙ icr_page out 80 l)
 
 -- two calls that laid out the same page were lent the same log
-same_page : (C D : LayCall) (n : ℕ) → C.gave ≡ Laid n → D.gave ≡ Laid n → take n (out' C) ≡ take n (out' D) →
+same_page : (C D : LayCall) (n : ℕ) → C.gave ≡ Some n → D.gave ≡ Some n → take n (out' C) ≡ take n (out' D) →
     Below 256 (log C) → Below 256 (log D) → log C ≡ log D
 unfolding fault_of
 same_page C D n e f s h l =
     page_promises.same_bytes (log C) (log D) h l (sound C n e) (sound D n f) (sym (its_bytes C n e) ∙ s ∙ its_bytes D n f)
   where
-    sound : (C : LayCall) (n : ℕ) → C.gave ≡ Laid n → fault_of (log C) ≡ Nothing
+    sound : (C : LayCall) (n : ℕ) → C.gave ≡ Some n → fault_of (log C) ≡ Ok tt
     sound C n e =
         let z = only_then C n e in
         rw (eq-eqb (length (log C) % 8) 0 z.0) (page_promises.only_so 1 (words_in (log C)) (each_known (words_in (log C)) z.1))
 
 -- ---- The numbers of an answer: 0 and the page's length, or 15 and 0.
 
-refusal_number_holds : (C : RefusalCall) → ((n : ℕ) → C.given.0 ≡ Laid n → C.gave ≡ 0) × (C.given.0 ≡ Refused → C.gave ≡ 15)
+refusal_number_holds : (C : RefusalCall) → ((n : ℕ) → C.given.0 ≡ Some n → C.gave ≡ 0) × (C.given.0 ≡ None → C.gave ≡ 15)
 refusal_number_holds C = (λ n e. C.contract ∙ ap page_refusal e, λ e. C.contract ∙ ap page_refusal e)
 
-length_number : (C : LengthCall) → ((n : ℕ) → C.given.0 ≡ Laid n → C.gave ≡ n) × (C.given.0 ≡ Refused → C.gave ≡ 0)
+length_number : (C : LengthCall) → ((n : ℕ) → C.given.0 ≡ Some n → C.gave ≡ n) × (C.given.0 ≡ None → C.gave ≡ 0)
 length_number C = (λ n e. C.contract ∙ ap page_length e, λ e. C.contract ∙ ap page_length e)
 
 -- ---- Entries put into a window, the first with a number that is asked for.
@@ -375,14 +375,14 @@ append_lines n k (code ∷ value ∷ ws) vs h =
 append_text : (n k : ℕ) (ws vs : List ℕ) → length ws ≡ 2 * k → entries_text n (ws ++ vs) ≡ entries_text n ws ++ entries_text (n + k) vs
 append_text n k ws vs h = ap text_of (append_lines n k ws vs h) ∙ text_append (lines_of n ws) (lines_of (n + k) vs)
 
-not_known : (a : Access) → is_known a ≡ false → a ≡ Unknown
-not_known (Read r) e = let z : ◌≡◌ {A = ℕ} 0 1 = cc in absurd (omega arith)
-not_known (Write r) e = let z : ◌≡◌ {A = ℕ} 0 1 = cc in absurd (omega arith)
-not_known Unknown e = refl
+not_known : (a : Option Access) → is_known a ≡ false → a ≡ None
+not_known (Some (Read r)) e = let z : ◌≡◌ {A = ℕ} 0 1 = cc in absurd (omega arith)
+not_known (Some (Write r)) e = let z : ◌≡◌ {A = ℕ} 0 1 = cc in absurd (omega arith)
+not_known None e = refl
 
 no_text : (n code value : ℕ) → is_code code ≡ false → entries_text n (code ∷ value ∷ []) ≡ []
 unfolding lines_of entry_lines text_of
-no_text n code value h = (let e : access_of code ≡ Unknown = not_known (access_of code) (is_code_holds code ∙ h) in rw e)
+no_text n code value h = (let e : access_of code ≡ None = not_known (access_of code) (is_code_holds code ∙ h) in rw e)
 
 late_text : entries_text 1000000 (0x11C ∷ 0 ∷ []) ≡ filled 80 (codes "000000 write ICR     00000000") ++ codes "\n"
 unfolding lines_of entry_lines access_of head_of lines_from text_of tokens_below bit_tokens flag_tokens get_of bits_at spelled_of hex_digit_of
@@ -458,7 +458,7 @@ same_text C D e f p q h l t b c K M =
 
 -- ---- The value of an entry by what stands from column 31 on.
 
-reads : (r : Register) → access_of (offset_of r) ≡ Read r
+reads : (r : Register) → access_of (offset_of r) ≡ Some (Read r)
 unfolding access_of
 reads Cr1 = refl
 reads Cr2 = refl
@@ -470,7 +470,7 @@ reads Icr = refl
 reads Rxdr = refl
 reads Txdr = refl
 
-writes : (r : Register) → access_of (offset_of r + 0x100) ≡ Write r
+writes : (r : Register) → access_of (offset_of r + 0x100) ≡ Some (Write r)
 unfolding access_of
 writes Cr1 = refl
 writes Cr2 = refl

@@ -1,4 +1,5 @@
 -- Two logs with equal pages are the same log. Assumes nothing.
+use Rattle.std.specs.Prelude.{Option, Some, None, Ok, Err}
 use Prim.Native.Nat.{ℕ, ◌+◌, ◌-◌, ◌/◌, ◌%◌, ◌^◌, ◌<◌}
 use native.Mathlib.Omega.{arith}
 use mathlib.Core.Path.{◌≡◌, refl, sym, ap, ap₂, ◌∙◌}
@@ -19,13 +20,13 @@ use Rattle.page.specs.Back.{same}
 use Rattle.page.specs.Page.{access_in, access_of, spaces, filled, head_of, lines_from, access_lines, entry_lines, lines_of, text_of, entries_text, page_of, is_known, fault_from, fault_of}
 use Rattle.page.specs.Promises.{EachKnown}
 use Rattle.page.specs.Tokens.{Token, tokens_of}
-use Rattle.page.specs.declared.Access.{Access}
-use Rattle.page.specs.declared.Access.TheVariants.{Read, Write, Unknown}
-use Rattle.page.specs.declared.Fault.TheVariants.{Nothing, NotWhole}
 use Rattle.page.proofs.Lines.{Name, name_by, name_of, length_head}
 use Rattle.page.proofs.Sound.{sound}
 use Rattle.page.proofs.Spelled.{same_parts, same_spelled}
 use Rattle.page.proofs.Texts.{length_filled}
+use Rattle.page.specs.declared.Access.{Access}
+use Rattle.page.specs.declared.Access.TheVariants.{Read, Write}
+use Rattle.page.specs.declared.Fault.TheVariants.{NotWhole}
 
 -- ---- an entry's text begins with its head
 pub text_append : (ls ms : List (List ℕ)) → text_of (ls ++ ms) ≡ text_of ls ++ text_of ms
@@ -52,36 +53,36 @@ line_begins line (t ∷ ts) = by (leb (length line + (1 + length t)) 80) (line_b
     by false h = full_begins line (lines_from (spaces 30 ++ t) ts)
 
 -- what was done, where
-abbrev done_of : Access → List ℕ
-done_of (Read r) = codes "read"
-done_of (Write r) = codes "write"
-done_of Unknown = []
+abbrev done_of : Option Access → List ℕ
+done_of (Some (Read r)) = codes "read"
+done_of (Some (Write r)) = codes "write"
+done_of None = []
 
-abbrev register_in : Access → Register
-register_in (Read r) = r
-register_in (Write r) = r
-register_in Unknown = Cr1
+abbrev register_in : Option Access → Register
+register_in (Some (Read r)) = r
+register_in (Some (Write r)) = r
+register_in None = Cr1
 
-abbrev head_for : ℕ → Access → ℕ → List ℕ
+abbrev head_for : ℕ → Option Access → ℕ → List ℕ
 head_for n a value = head_of n (done_of a) (register_in a) value
 
-access_begins : (n : ℕ) (a : Access) (value : ℕ) → is_known a ≡ true → Begins (text_of (access_lines n a value)) (head_for n a value)
-access_begins n (Read r) value k = line_begins (head_of n (codes "read") r value) (tokens_of r value)
-access_begins n (Write r) value k = line_begins (head_of n (codes "write") r value) (tokens_of r value)
-access_begins n Unknown value k = let z : ◌≡◌ {A = ℕ} 0 1 = cc in absurd (omega arith)
+access_begins : (n : ℕ) (a : Option Access) (value : ℕ) → is_known a ≡ true → Begins (text_of (access_lines n a value)) (head_for n a value)
+access_begins n (Some (Read r)) value k = line_begins (head_of n (codes "read") r value) (tokens_of r value)
+access_begins n (Some (Write r)) value k = line_begins (head_of n (codes "write") r value) (tokens_of r value)
+access_begins n None value k = let z : ◌≡◌ {A = ℕ} 0 1 = cc in absurd (omega arith)
 
 -- ---- a head tells the code: the register's by its name, and a write's is 0x100 above
-abbrev code_of : Access → ℕ
-code_of (Read r) = offset_of r
-code_of (Write r) = offset_of r + 0x100
-code_of Unknown = 0
+abbrev code_of : Option Access → ℕ
+code_of (Some (Read r)) = offset_of r
+code_of (Some (Write r)) = offset_of r + 0x100
+code_of None = 0
 
 known_code : (code : ℕ) (rs : List Register) → is_known (access_in code rs) ≡ true → code ≡ code_of (access_in code rs)
 known_code code [] k = let z : ◌≡◌ {A = ℕ} 0 1 = cc in absurd (omega arith)
 known_code code (r ∷ rs) k = by (eqb code (offset_of r)) (eqb code (offset_of r + 0x100)) refl refl k (known_code code rs)
   where
-    by : (b c : Bool) → eqb code (offset_of r) ≡ b → eqb code (offset_of r + 0x100) ≡ c → is_known (cond b (Read r) (cond c (Write r) (access_in code rs))) ≡ true →
-        (is_known (access_in code rs) ≡ true → code ≡ code_of (access_in code rs)) → code ≡ code_of (cond b (Read r) (cond c (Write r) (access_in code rs)))
+    by : (b c : Bool) → eqb code (offset_of r) ≡ b → eqb code (offset_of r + 0x100) ≡ c → is_known (cond b (Some (Read r)) (cond c (Some (Write r)) (access_in code rs))) ≡ true →
+        (is_known (access_in code rs) ≡ true → code ≡ code_of (access_in code rs)) → code ≡ code_of (cond b (Some (Read r)) (cond c (Some (Write r)) (access_in code rs)))
     by true c p q l f = eqb-true code (offset_of r) p
     by false true p q l f = eqb-true code (offset_of r + 0x100) q
     by false false p q l f = f l
@@ -104,10 +105,10 @@ offset_told Icr = refl
 offset_told Rxdr = refl
 offset_told Txdr = refl
 
-code_told : (a : Access) → is_known a ≡ true → code_for (filled 5 (done_of a)) (filled 7 (codes (register_name (register_in a)))) ≡ code_of a
-code_told (Read r) k = offset_told r
-code_told (Write r) k = ap (λ (x : ℕ). x + 0x100) (offset_told r)
-code_told Unknown k = let z : ◌≡◌ {A = ℕ} 0 1 = cc in absurd (omega arith)
+code_told : (a : Option Access) → is_known a ≡ true → code_for (filled 5 (done_of a)) (filled 7 (codes (register_name (register_in a)))) ≡ code_of a
+code_told (Some (Read r)) k = offset_told r
+code_told (Some (Write r)) k = ap (λ (x : ℕ). x + 0x100) (offset_told r)
+code_told None k = let z : ◌≡◌ {A = ℕ} 0 1 = cc in absurd (omega arith)
 
 -- ---- equal heads, part by part
 abbrev joined : List ℕ → List ℕ → List ℕ → List ℕ → List ℕ
@@ -123,19 +124,19 @@ same_four a b c d a' b' c' d' h l m e =
     let v = same_parts (a ++ spaces 1) (a' ++ spaces 1) b b' (simp length-append (omega arith)) u.0 in
     (v.1, z.1, x.1)
 
-done_named : (a : Access) → Name (done_of a) 5
-done_named (Read r) = name_by 5 (codes "read") tt
-done_named (Write r) = name_by 5 (codes "write") tt
-done_named Unknown = name_by 5 [] tt
+done_named : (a : Option Access) → Name (done_of a) 5
+done_named (Some (Read r)) = name_by 5 (codes "read") tt
+done_named (Some (Write r)) = name_by 5 (codes "write") tt
+done_named None = name_by 5 [] tt
 
-same_head : (n : ℕ) (a a' : Access) (value value' : ℕ) → is_known a ≡ true → is_known a' ≡ true → value < 2 ^ 32 → value' < 2 ^ 32 →
+same_head : (n : ℕ) (a a' : Option Access) (value value' : ℕ) → is_known a ≡ true → is_known a' ≡ true → value < 2 ^ 32 → value' < 2 ^ 32 →
     head_for n a value ≡ head_for n a' value' → (code_of a ≡ code_of a') × (value ≡ value')
 unfolding head_of
 same_head n a a' value value' k k' h h' e =
-    let name : Access → List ℕ = λ (b : Access). filled 7 (codes (register_name (register_in b))) in
-    let done : Access → List ℕ = λ (b : Access). filled 5 (done_of b) in
-    let five : (b : Access) → length (done b) ≡ 5 = λ b. length_filled 5 (done_of b) (done_named b).short in
-    let seven : (b : Access) → length (name b) ≡ 7 = λ b. length_filled 7 (codes (register_name (register_in b))) (name_of (register_in b)).short in
+    let name : Option Access → List ℕ = λ (b : Option Access). filled 7 (codes (register_name (register_in b))) in
+    let done : Option Access → List ℕ = λ (b : Option Access). filled 5 (done_of b) in
+    let five : (b : Option Access) → length (done b) ≡ 5 = λ b. length_filled 5 (done_of b) (done_named b).short in
+    let seven : (b : Option Access) → length (name b) ≡ 7 = λ b. length_filled 7 (codes (register_name (register_in b))) (name_of (register_in b)).short in
     let z = same_four (spelled_of 10 6 n) (done a) (name a) (hex_of 8 value) (spelled_of 10 6 n) (done a') (name a') (hex_of 8 value')
     refl (five a ∙ sym (five a')) (seven a ∙ sym (seven a')) e in
     (sym (code_told a k) ∙ ap₂ code_for z.0 z.1 ∙ code_told a' k', same_spelled 8 value value' h h' z.2)
@@ -199,15 +200,15 @@ pub same_log : (log log' : List ℕ) → Below (2 ^ 32) log → Below (2 ^ 32) l
 same_log log log' h h' k k' e = same_from 1 log log' h h' k k' e
 
 -- ---- and the same bytes: a log without fault has whole words
-whole_log : (log : List ℕ) → fault_of log ≡ Nothing → (length log % 8 ≡ 0) × (fault_from 1 (words_in log) ≡ Nothing)
+whole_log : (log : List ℕ) → fault_of log ≡ Ok tt → (length log % 8 ≡ 0) × (fault_from 1 (words_in log) ≡ Ok tt)
 unfolding fault_of
 whole_log log e = by (eqb (length log % 8) 0) refl e
   where
-    by : (b : Bool) → eqb (length log % 8) 0 ≡ b → cond b (fault_from 1 (words_in log)) NotWhole ≡ Nothing → (length log % 8 ≡ 0) × (fault_from 1 (words_in log) ≡ Nothing)
+    by : (b : Bool) → eqb (length log % 8) 0 ≡ b → cond b (fault_from 1 (words_in log)) (Err NotWhole) ≡ Ok tt → (length log % 8 ≡ 0) × (fault_from 1 (words_in log) ≡ Ok tt)
     by true q f = (eqb-true (length log % 8) 0 q, f)
     by false q f = let z : ◌≡◌ {A = ℕ} 0 1 = cc in absurd (omega arith)
 
-pub same_bytes : (log log' : List ℕ) → Below 256 log → Below 256 log' → fault_of log ≡ Nothing → fault_of log' ≡ Nothing →
+pub same_bytes : (log log' : List ℕ) → Below 256 log → Below 256 log' → fault_of log ≡ Ok tt → fault_of log' ≡ Ok tt →
     page_of (words_in log) ≡ page_of (words_in log') → log ≡ log'
 same_bytes log log' h h' f f' e =
     let w = whole_log log f in

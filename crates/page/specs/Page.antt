@@ -1,5 +1,5 @@
 -- The service page of a log (document 02, R-2): each entry on lines of 80 columns. Assumes nothing.
-use Rattle.std.specs.Prelude.{ℕ, ◌+◌, ◌-◌, ◌%◌, Bool, true, false, cond, List, [], ◌∷◌, ◌++◌, eqb, leb, length, drop, replicate}
+use Rattle.std.specs.Prelude.{ℕ, ◌+◌, ◌-◌, ◌%◌, Bool, true, false, cond, List, [], ◌∷◌, ◌++◌, eqb, leb, length, drop, replicate, Option, Some, None, Result, Ok, Err}
 use Rattle.numerals.specs.Numbers.{spelled_of, hex_of}
 use Rattle.registers.specs.Fields.{registers, register_name}
 use Rattle.registers.specs.Map.{offset_of}
@@ -8,18 +8,16 @@ use Rattle.window.specs.Codes.{codes}
 use Rattle.words.specs.Words.{words_in}
 use Rattle.page.specs.Tokens.{Token, tokens_of}
 use Rattle.page.specs.declared.Access.{Access}
-use Rattle.page.specs.declared.Access.TheVariants.{Read, Write, Unknown}
 use Rattle.page.specs.declared.Fault.{Fault}
-use Rattle.page.specs.declared.Fault.TheVariants.{Nothing, NotWhole, UnknownCode}
-use Rattle.page.specs.declared.Page.{Page}
-use Rattle.page.specs.declared.Page.TheVariants.{Laid, Refused}
+use Rattle.page.specs.declared.Access.TheVariants.{Read, Write}
+use Rattle.page.specs.declared.Fault.TheVariants.{NotWhole, UnknownCode}
 
 -- ---- What an entry's code says: a register's offset, plus 0x100 for a write, and nothing else.
-abbrev pub access_in : ℕ → List Register → Access
-access_in code [] = Unknown
-access_in code (r ∷ rs) = cond (eqb code (offset_of r)) (Read r) (cond (eqb code (offset_of r + 0x100)) (Write r) (access_in code rs))
+abbrev pub access_in : ℕ → List Register → Option Access
+access_in code [] = None
+access_in code (r ∷ rs) = cond (eqb code (offset_of r)) (Some (Read r)) (cond (eqb code (offset_of r + 0x100)) (Some (Write r)) (access_in code rs))
 
-unfoldable pub access_of : ℕ → Access
+unfoldable pub access_of : ℕ → Option Access
 access_of code = access_in code registers
 
 -- ---- Columns
@@ -47,10 +45,10 @@ lines_from line (t ∷ ts) =
 abbrev pub register_lines : ℕ → List ℕ → Register → ℕ → List (List ℕ)
 register_lines n done r value = lines_from (head_of n done r value) (tokens_of r value)
 
-abbrev pub access_lines : ℕ → Access → ℕ → List (List ℕ)
-access_lines n (Read r) value = register_lines n (codes "read") r value
-access_lines n (Write r) value = register_lines n (codes "write") r value
-access_lines n Unknown value = []
+abbrev pub access_lines : ℕ → Option Access → ℕ → List (List ℕ)
+access_lines n (Some (Read r)) value = register_lines n (codes "read") r value
+access_lines n (Some (Write r)) value = register_lines n (codes "write") r value
+access_lines n None value = []
 
 unfoldable pub entry_lines : ℕ → ℕ → ℕ → List (List ℕ)
 entry_lines n code value = access_lines n (access_of code) value
@@ -73,43 +71,42 @@ abbrev pub page_of : List ℕ → List ℕ
 page_of log = entries_text 1 log
 
 -- ---- What is wrong with a log, of which the first entry is entry n: a code that is no register's, or a word that is no entry
-abbrev pub is_known : Access → Bool
-is_known (Read r) = true
-is_known (Write r) = true
-is_known Unknown = false
+abbrev pub is_known : Option Access → Bool
+is_known (Some (Read r)) = true
+is_known (Some (Write r)) = true
+is_known None = false
 
-unfoldable pub fault_from : ℕ → List ℕ → Fault
-fault_from n [] = Nothing
-fault_from n (w ∷ []) = NotWhole
-fault_from n (code ∷ value ∷ log) = cond (is_known (access_of code)) (fault_from (n + 1) log) (UnknownCode n)
+unfoldable pub fault_from : ℕ → List ℕ → Result (Unit {0}) Fault
+fault_from n [] = Ok tt
+fault_from n (w ∷ []) = Err NotWhole
+fault_from n (code ∷ value ∷ log) = cond (is_known (access_of code)) (fault_from (n + 1) log) (Err (UnknownCode n))
 
 -- and with a log in bytes, which make no whole entries or have such words
-unfoldable pub fault_of : List ℕ → Fault
-fault_of bytes = cond (eqb (length bytes % 8) 0) (fault_from 1 (words_in bytes)) NotWhole
+unfoldable pub fault_of : List ℕ → Result (Unit {0}) Fault
+fault_of bytes = cond (eqb (length bytes % 8) 0) (fault_from 1 (words_in bytes)) (Err NotWhole)
 
-abbrev pub is_sound : Fault → Bool
-is_sound Nothing = true
-is_sound NotWhole = false
-is_sound (UnknownCode n) = false
+abbrev pub is_sound : Result (Unit {0}) Fault → Bool
+is_sound (Ok u) = true
+is_sound (Err f) = false
 
 -- ---- The page laid out in a lent buffer, or refusal 15, which leaves the buffer as it is
 pub record Left : Type 0 where
-  pub page : Page
+  pub page : Option ℕ
   pub buffer : List ℕ
 
-abbrev pub left : Page → List ℕ → Left
+abbrev pub left : Option ℕ → List ℕ → Left
 left page buffer = record { page = page; buffer = buffer }
 
 abbrev pub laid_out : List ℕ → List ℕ → Left
-laid_out text buffer = cond (leb (length text) (length buffer)) (left (Laid (length text)) (text ++ drop (length text) buffer)) (left Refused buffer)
+laid_out text buffer = cond (leb (length text) (length buffer)) (left (Some (length text)) (text ++ drop (length text) buffer)) (left None buffer)
 
 unfoldable pub page_in : List ℕ → List ℕ → Left
-page_in log buffer = cond (is_sound (fault_of log)) (laid_out (page_of (words_in log)) buffer) (left Refused buffer)
+page_in log buffer = cond (is_sound (fault_of log)) (laid_out (page_of (words_in log)) buffer) (left None buffer)
 
-abbrev pub page_refusal : Page → ℕ
-page_refusal (Laid n) = 0
-page_refusal Refused = 15
+abbrev pub page_refusal : Option ℕ → ℕ
+page_refusal (Some n) = 0
+page_refusal None = 15
 
-abbrev pub page_length : Page → ℕ
-page_length (Laid n) = n
-page_length Refused = 0
+abbrev pub page_length : Option ℕ → ℕ
+page_length (Some n) = n
+page_length None = 0

@@ -1,18 +1,14 @@
 -- Serves proofs: how the tokens of an entry are put where a page's text stands, one after the other. Assumes nothing.
-use Rattle.std.specs.Prelude.{ℕ, zero, suc, ◌+◌, ◌-◌, Bool, true, false, cond, ◌&&◌, List, [], ◌∷◌, ◌++◌, map, eqb, leb, ltb, length}
+use Rattle.std.specs.Prelude.{ℕ, zero, suc, ◌+◌, ◌-◌, Bool, true, false, cond, ◌&&◌, List, [], ◌∷◌, ◌++◌, map, eqb, leb, ltb, length, Option, Some, None}
 use Rattle.fields.specs.Field.{place, bit, get_of}
 use Rattle.numerals.specs.Numbers.{parsed_of, decimal_of}
 use Rattle.numerals.specs.Words.{first_word, after_word}
-use Rattle.numerals.specs.declared.Parsed.{Parsed}
-use Rattle.numerals.specs.declared.Parsed.TheVariants.{Number, NotNumber}
 use Rattle.registers.specs.Fields.{Field, register_name, fields_of}
 use Rattle.registers.specs.declared.Register.{Register}
 use Rattle.window.specs.Codes.{codes}
 use Rattle.window.specs.Window.{Laid, laid, emit_of}
 use Rattle.page.specs.Page.{spaces, filled}
 use Rattle.page.specs.Tokens.{Token, flag_tokens, bit_tokens}
-use Rattle.page.specs.declared.Size.{Size}
-use Rattle.page.specs.declared.Size.TheVariants.{Fits, Over}
 use Rattle.page.specs.declared.line.Line.{Line}
 
 -- where the text stands, how many columns of its line are used, and the bits that are still to come: those below bit `top`
@@ -76,9 +72,9 @@ pub record Labelled : Type 0 where
 abbrev pub labelled : ℕ → ℕ → List ℕ → Labelled
 labelled at width label = record { at = at; width = width; label = label }
 
-abbrev pub or_zero : Parsed → ℕ
-or_zero (Number n) = n
-or_zero NotNumber = 0
+abbrev pub or_zero : Option ℕ → ℕ
+or_zero (Some n) = n
+or_zero None = 0
 
 abbrev pub number_in : List ℕ → ℕ
 number_in s = or_zero (parsed_of (first_word s))
@@ -109,5 +105,5 @@ fields_put value [] s = bits_put value 0 s
 fields_put value (f ∷ fs) s = fields_put value fs (field_put value f s)
 
 -- ---- how long a text is, if there is room for it
-abbrev pub size_in : ℕ → List ℕ → Size
-size_in room text = cond (leb (length text) room) (Fits (length text)) Over
+abbrev pub size_in : ℕ → List ℕ → Option ℕ
+size_in room text = cond (leb (length text) room) (Some (length text)) None

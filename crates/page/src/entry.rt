@@ -6,16 +6,19 @@ ghost use Rattle.page.specs.Put.{done_of, name_of};
 ghost use Rattle.window.specs.Window.{laid, emit_of};
 
 use crate::Access;
-use crate::line::{Line, end_line};
+use crate::line::Line;
 use crate::names::put_register;
 use registers::Register;
 use window::Cursor;
 
 // A code is a register's offset, plus 0x100 for a write.
-pub fn decoded(code: u32) -> Access
+// By hand: one look at the code, where a search by `Register::offset` would be one at each register. It is no
+// `TryFrom`, as any other code is no mistake here.
+#[tactic(auto, unfolding(crate::specs::Page::access_of))]
+pub fn decoded(code: u32) -> Option<Access>
     ensures { result ≡ access_of code }
 {
-    match code {
+    let access = match code {
         0x000 => Access::Read(Register::Cr1),
         0x004 => Access::Read(Register::Cr2),
         0x008 => Access::Read(Register::Oar1),
@@ -34,8 +37,9 @@ pub fn decoded(code: u32) -> Access
         0x11C => Access::Write(Register::Icr),
         0x124 => Access::Write(Register::Rxdr),
         0x128 => Access::Write(Register::Txdr),
-        _ => Access::Unknown,
-    }
+        _ => return None,
+    };
+    Some(access)
 }
 
 // The entry's number, from column 1 on.
@@ -47,66 +51,62 @@ fn put_number(p: Cursor, n: u32, out: &mut [u8]) -> Cursor
     window::put_repeated(p, b' ', 1, out)
 }
 
-// What was done, from column 8 on.
-fn put_done(p: Cursor, write: bool, out: &mut [u8]) -> Cursor
-    ensures { laid result out.new ≡ emit_of (filled 5 (done_of write) ++ spaces 1) (laid p out.old) }
+// What was done, and a space.
+// By hand: `Display` promises its bytes for a `String` alone, and fixed memory has none.
+fn done(write: bool) -> &'static [u8]
+    ensures { result.now ≡ filled 5 (done_of write) ++ spaces 1 }
 {
-    if write {
-        window::put_all(p, b"write ", out)
-    } else {
-        window::put_all(p, b"read  ", out)
-    }
+    if write { b"write " } else { b"read  " }
 }
 
-// The register, from column 14 on.
-fn put_name(p: Cursor, r: Register, out: &mut [u8]) -> Cursor
-    ensures { laid result out.new ≡ emit_of (name_of r) (laid p out.old) }
+// The register, and a space.
+fn name(r: Register) -> &'static [u8]
+    ensures { result.now ≡ name_of r }
 {
     match r {
-        Register::Cr1 => window::put_all(p, b"CR1     ", out),
-        Register::Cr2 => window::put_all(p, b"CR2     ", out),
-        Register::Oar1 => window::put_all(p, b"OAR1    ", out),
-        Register::Oar2 => window::put_all(p, b"OAR2    ", out),
-        Register::Timingr => window::put_all(p, b"TIMINGR ", out),
-        Register::Isr => window::put_all(p, b"ISR     ", out),
-        Register::Icr => window::put_all(p, b"ICR     ", out),
-        Register::Rxdr => window::put_all(p, b"RXDR    ", out),
-        Register::Txdr => window::put_all(p, b"TXDR    ", out),
+        Register::Cr1 => b"CR1     ",
+        Register::Cr2 => b"CR2     ",
+        Register::Oar1 => b"OAR1    ",
+        Register::Oar2 => b"OAR2    ",
+        Register::Timingr => b"TIMINGR ",
+        Register::Isr => b"ISR     ",
+        Register::Icr => b"ICR     ",
+        Register::Rxdr => b"RXDR    ",
+        Register::Txdr => b"TXDR    ",
     }
 }
 
-// The columns 1 to 29.
+// By hand: number, what was done, register and value go side by side to where each is put; nothing else is asked of all four. The
+// definition tells a read from a write by a bool, too (`done_of`).
+
+// The columns 1 to 29: what was done from column 8 on, the register from column 14 on.
 fn put_head(p: Cursor, n: u32, write: bool, r: Register, value: u32, out: &mut [u8]) -> Cursor
     ensures { laid result out.new ≡ emit_of (head_of n (done_of write) r value) (laid p out.old) }
 {
     let p = put_number(p, n, out);
-    let p = put_done(p, write, out);
-    let p = put_name(p, r, out);
-    let digits = numerals::hex(value);
-    window::put_all(p, &digits, out)
+    let p = window::put_all(p, done(write), out);
+    let p = window::put_all(p, name(r), out);
+    window::put_all(p, &numerals::hex(value), out)
 }
 
 fn put_lines(p: Cursor, n: u32, write: bool, r: Register, value: u32, out: &mut [u8]) -> Cursor
     ensures { laid result out.new ≡ emit_of (text_of (register_lines n (done_of write) r value)) (laid p out.old) }
 {
-    let place = put_head(p, n, write, r, value, out);
     let line = Line {
-        place,
+        place: put_head(p, n, write, r, value, out),
         column: 29,
         top: 32,
     };
-    let last = put_register(line, r, value, out);
-    let end = last.place;
-    end_line(end, last.column, out)
+    put_register(line, r, value, out).end(out)
 }
 
-fn put_access(p: Cursor, n: u32, a: Access, value: u32, out: &mut [u8]) -> Cursor
+fn put_access(p: Cursor, n: u32, a: Option<Access>, value: u32, out: &mut [u8]) -> Cursor
     ensures { laid result out.new ≡ emit_of (text_of (access_lines n a value)) (laid p out.old) }
 {
     match a {
-        Access::Read(r) => put_lines(p, n, false, r, value, out),
-        Access::Write(r) => put_lines(p, n, true, r, value, out),
-        Access::Unknown => p,
+        Some(Access::Read(r)) => put_lines(p, n, false, r, value, out),
+        Some(Access::Write(r)) => put_lines(p, n, true, r, value, out),
+        None => p,
     }
 }
 
@@ -118,6 +118,7 @@ pub fn put_entry(p: Cursor, n: u32, code: u32, value: u32, out: &mut [u8]) -> Cu
 }
 
 // How many bytes the lines of an entry have: they are put before a window that they do not reach.
+// By hand: fixed memory, which no byte reaches.
 pub fn size(n: u32, code: u32, value: u32) -> usize
     ensures value { result ≡ length (text_of (entry_lines n code value)) }
     ensures upper_bound { result ≤ 405 }

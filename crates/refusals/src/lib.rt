@@ -3,29 +3,26 @@
 #![tactic(auto)]
 
 ghost use Rattle.std.specs.Prelude.{◌≡◌, ◌≤◌, length};
-ghost use Rattle.calls.specs.Refusals.{no_such_listen_kind, no_configuration, no_such_call, too_wide, secondary_wide, mask_wide, config_wide, address_wide, strange_bits, buffer_wrong, request_of, verdict_of, check_of};
-ghost use Rattle.refusals.specs.Rows.{survey_of, buffer_verdict, list_verdict};
+ghost use Rattle.calls.specs.Refusals.{no_such_listen_kind, no_configuration, no_such_call, too_wide, secondary_wide, mask_wide, config_wide, address_wide, strange_bits, list_wrong, buffer_wrong, request_of, verdict_of, check_of};
+ghost use Rattle.refusals.specs.Rows.{survey_of};
 
-use calls::{
-    AddressMode, Call, Configuration, Description, Lookup, MaskBits, Refusal, SecondaryAddress,
-    Verdict,
-};
+use calls::{AddressMode, Call, Description, Refusal, TargetConfig};
 use kinds::{call, operation};
 
 // 12, no such call: calls 4 and 5 name one of three listen kinds, and 2 and 3 have a configuration.
+#[tactic(auto, unfolding(calls::specs::Calls::is_call))]
 fn is_no_listen_kind(c: Call, d: Description) -> bool
     ensures { result ≡ no_such_listen_kind c d }
 {
-    (call::is_call(c, Call::EnableTargetEvent) | call::is_call(c, Call::DisableTargetEvent))
-        & (d.listen > 2)
+    matches!(c, Call::EnableTargetEvent | Call::DisableTargetEvent) & (d.listen > 2)
 }
 
+#[tactic(auto, unfolding(calls::specs::Calls::is_call))]
 fn is_no_configuration(c: Call, d: Description) -> bool
     ensures { result ≡ no_configuration c d }
 {
-    let config = d.config;
-    (call::is_call(c, Call::TargetNew) | call::is_call(c, Call::ConfigureTargetAddresses))
-        & !call::has_configuration(config)
+    matches!(c, Call::TargetNew | Call::ConfigureTargetAddresses)
+        & !call::has_configuration(d.config)
 }
 
 fn is_no_such_call(c: Call, d: Description) -> bool
@@ -44,48 +41,35 @@ fn is_too_wide(mode: AddressMode, address: u32) -> bool
     }
 }
 
-fn is_secondary_wide(secondary: SecondaryAddress) -> bool
+fn is_secondary_wide(secondary: Option<u32>) -> bool
     ensures { result ≡ secondary_wide secondary }
 {
-    match secondary {
-        SecondaryAddress::NoSecondary => false,
-        SecondaryAddress::Secondary(address) => is_too_wide(AddressMode::AddressMode7bit, address),
-    }
+    secondary.is_some_and(|address| is_too_wide(AddressMode::AddressMode7bit, address))
 }
 
-fn is_mask_wide(mask: MaskBits) -> bool
+fn is_mask_wide(mask: Option<u32>) -> bool
     ensures { result ≡ mask_wide mask }
 {
-    match mask {
-        MaskBits::Unmasked => false,
-        MaskBits::Masked(bits) => bits > 6,
-    }
+    mask.is_some_and(|bits| bits > 6)
 }
 
-fn is_config_wide(config: Configuration) -> bool
+fn is_config_wide(config: Option<TargetConfig>) -> bool
     ensures { result ≡ config_wide config }
 {
-    match config {
-        Configuration::Unconfigured => false,
-        Configuration::Configured(t) => {
-            let mode = t.mode;
-            let secondary = t.secondary;
-            let mask = t.mask;
-            is_too_wide(mode, t.own) | (is_secondary_wide(secondary) | is_mask_wide(mask))
-        }
-    }
+    config.is_some_and(|t| {
+        is_too_wide(t.mode, t.own) | (is_secondary_wide(t.secondary) | is_mask_wide(t.mask))
+    })
 }
 
+#[tactic(auto, unfolding(calls::specs::Calls::is_call))]
 fn is_address_wide(c: Call, d: Description) -> bool
     ensures { result ≡ address_wide c d }
 {
-    let mode = d.mode;
-    let config = d.config;
-    (call::is_transaction(c) & is_too_wide(mode, d.address))
-        | ((call::is_call(c, Call::New)
-            | (call::is_call(c, Call::TargetNew)
-                | call::is_call(c, Call::ConfigureTargetAddresses)))
-            & is_config_wide(config))
+    (call::is_transaction(c) & is_too_wide(d.mode, d.address))
+        | (matches!(
+            c,
+            Call::New | Call::TargetNew | Call::ConfigureTargetAddresses
+        ) & is_config_wide(d.config))
 }
 
 // 10, list: at most 64 operations, without strange bits, that make up the buffer.
@@ -102,20 +86,33 @@ struct Survey {
     total: u32,
 }
 
-// One pass that never ends early, so that the compiler can take several operations at a time. Of at most 64 the sum does
-// not overflow.
+// By hand: `any` and `sum` are two passes, and `any` ends early; in one that never does, the compiler takes several
+// operations at a time. Of at most 64 the sum does not overflow.
 fn survey_of(ops: &[u32]) -> Survey
     requires { length ops.now ≤ 64 }
     ensures { result ≡ survey_of ops.now }
 {
     let mut strange = false;
     let mut total: u32 = 0;
-    for i in 0..ops.len() {
-        let o = ops[i];
+    for &o in ops {
         strange |= is_strange(o);
         total += operation::length(o);
     }
     Survey { strange, total }
+}
+
+// Only a transaction's list is looked at, and one of more than 64 operations is not gone through.
+fn is_list_wrong(c: Call, ops: &[u32], n: usize) -> bool
+    ensures { result ≡ list_wrong c ops.now n }
+{
+    if !call::is_transaction(c) {
+        return false;
+    }
+    if ops.len() > 64 {
+        return true;
+    }
+    let s = survey_of(ops);
+    s.strange | (s.total as usize != n)
 }
 
 // 11, buffer: an AutoAck transfer moves a byte, and sixteen bits count the bytes.
@@ -125,53 +122,31 @@ fn is_buffer_wrong(c: Call, n: usize) -> bool
     ((call::moves_bytes(c) & !call::is_manual(c)) & (n == 0)) | (n > 65535)
 }
 
-// The verdict on a listed call, by the rows in their order: here from 11 on.
-fn buffer_verdict(c: Call, n: usize) -> Verdict
-    ensures { result ≡ buffer_verdict c n }
-{
-    if is_buffer_wrong(c, n) {
-        return Verdict::Refused(Refusal::Buffer);
-    }
-    Verdict::Accepted(c)
-}
-
-// From 10 on. Only a transaction's list is looked at, and one of more than 64 operations is not gone through.
-fn list_verdict(c: Call, ops: &[u32], n: usize) -> Verdict
-    ensures { result ≡ list_verdict c ops.now n }
-{
-    if !call::is_transaction(c) {
-        return buffer_verdict(c, n);
-    }
-    if ops.len() > 64 {
-        return Verdict::Refused(Refusal::List);
-    }
-    let s = survey_of(ops);
-    if s.strange | (s.total as usize != n) {
-        return Verdict::Refused(Refusal::List);
-    }
-    buffer_verdict(c, n)
-}
-
-fn verdict(c: Call, d: Description, ops: &[u32], n: usize) -> Verdict
+// The verdict on a listed call, by the rows in their order.
+#[tactic(auto, unfolding(calls::specs::Refusals::verdict_of))]
+fn verdict(c: Call, d: Description, ops: &[u32], n: usize) -> Result<Call, Refusal>
     ensures { result ≡ verdict_of (request_of c d ops.now n) }
 {
     if is_no_such_call(c, d) {
-        return Verdict::Refused(Refusal::NoSuchCall);
+        return Err(Refusal::NoSuchCall);
     }
     if is_address_wide(c, d) {
-        return Verdict::Refused(Refusal::Address);
+        return Err(Refusal::Address);
     }
-    list_verdict(c, ops, n)
+    if is_list_wrong(c, ops, n) {
+        return Err(Refusal::List);
+    }
+    if is_buffer_wrong(c, n) {
+        return Err(Refusal::Buffer);
+    }
+    Ok(c)
 }
 
 // What begin and advance both look at; n is the lent buffer's length.
 #[tactic(auto, unfolding(calls::specs::Refusals::check_of))]
-pub fn check(d: Description, ops: &[u32], n: usize) -> Verdict
+pub fn check(d: Description, ops: &[u32], n: usize) -> Result<Call, Refusal>
     ensures { result ≡ check_of d ops.now n }
 {
-    let l = call::lookup(d.call);
-    match l {
-        Lookup::Listed(c) => verdict(c, d, ops, n),
-        Lookup::Unlisted => Verdict::Refused(Refusal::NoSuchCall),
-    }
+    let c = Call::try_from(d.call)?;
+    verdict(c, d, ops, n)
 }

@@ -1,5 +1,6 @@
 // The nine I2C registers of RM0492: a type for each around its word, with its offset, its reset value, and the fields that
 // the driver reads and writes. A getter reads a field of the word, a setter gives the word with the field replaced.
+// By hand: each getter and setter has its field's name and place from RM0492, and one that takes both says neither.
 #![tactic(auto)]
 
 ghost use Rattle.std.specs.Prelude.{◌≡◌};
@@ -9,7 +10,7 @@ ghost use Rattle.registers.specs.Addresses.{seven_bit_own, ten_bit_own, secondar
 ghost use Rattle.registers.specs.Places.{CR1_GCEN, CR1_SBC, CR1_ANFOFF, CR1_PE, CR2_AUTOEND, CR2_RELOAD, CR2_NBYTES, CR2_NACK, CR2_START, CR2_HEAD10R, CR2_ADD10, CR2_RD_WRN, CR2_SADD, OAR1_OA1EN, OAR1_OA1MODE, OAR1_OA1, OAR2_OA2EN, OAR2_OA2MSK, OAR2_OA2, TIMINGR_PRESC, TIMINGR_SCLDEL, TIMINGR_SDADEL, TIMINGR_SCLH, TIMINGR_SCLL, ISR_ADDCODE, ISR_DIR, ISR_ARLO, ISR_BERR, ISR_TCR, ISR_TC, ISR_STOPF, ISR_NACKF, ISR_ADDR, ISR_RXNE, ISR_TXIS, ISR_TXE, ICR_ARLOCF, ICR_BERRCF, ICR_STOPCF, ICR_NACKCF, ICR_ADDRCF, RXDR_RXDATA, TXDR_TXDATA};
 
 // Which register an access goes to.
-#[derive(Clone, Copy)]
+#[derive(Clone, Copy, Debug, PartialEq, Eq)]
 pub enum Register {
     Cr1,
     Cr2,
@@ -22,6 +23,7 @@ pub enum Register {
     Txdr,
 }
 
+// By hand: offset and reset value are constants of the types, which a value cannot choose but by a match.
 impl Register {
     pub fn offset(self) -> u32
         ensures { result ≡ offset_of self }
@@ -58,7 +60,7 @@ impl Register {
 }
 
 // Control register 1.
-#[derive(Clone, Copy)]
+#[derive(Clone, Copy, Debug, PartialEq, Eq)]
 pub struct Cr1(pub u32);
 
 impl Cr1 {
@@ -99,7 +101,7 @@ impl Cr1 {
 }
 
 // Control register 2.
-#[derive(Clone, Copy)]
+#[derive(Clone, Copy, Debug, PartialEq, Eq)]
 pub struct Cr2(pub u32);
 
 impl Cr2 {
@@ -171,7 +173,7 @@ impl Cr2 {
 }
 
 // Own address register 1: the primary address of a target.
-#[derive(Clone, Copy)]
+#[derive(Clone, Copy, Debug, PartialEq, Eq)]
 pub struct Oar1(pub u32);
 
 impl Oar1 {
@@ -223,7 +225,7 @@ impl Oar1 {
 }
 
 // Own address register 2: the secondary address of a target, seven bits, and its mask.
-#[derive(Clone, Copy)]
+#[derive(Clone, Copy, Debug, PartialEq, Eq)]
 pub struct Oar2(pub u32);
 
 impl Oar2 {
@@ -265,7 +267,7 @@ impl Oar2 {
 }
 
 // Timing register.
-#[derive(Clone, Copy)]
+#[derive(Clone, Copy, Debug, PartialEq, Eq)]
 pub struct Timingr(pub u32);
 
 impl Timingr {
@@ -335,7 +337,7 @@ impl Timingr {
 }
 
 // Interrupt and status register. Writing TXE 1 empties the transmit register.
-#[derive(Clone, Copy)]
+#[derive(Clone, Copy, Debug, PartialEq, Eq)]
 pub struct Isr(pub u32);
 
 impl Isr {
@@ -426,7 +428,7 @@ impl Isr {
 }
 
 // Interrupt clear register: writing 1 clears the flag of the same place in ISR.
-#[derive(Clone, Copy)]
+#[derive(Clone, Copy, Debug, PartialEq, Eq)]
 pub struct Icr(pub u32);
 
 impl Icr {
@@ -466,7 +468,7 @@ impl Icr {
 }
 
 // Receive data register.
-#[derive(Clone, Copy)]
+#[derive(Clone, Copy, Debug, PartialEq, Eq)]
 pub struct Rxdr(pub u32);
 
 impl Rxdr {
@@ -482,7 +484,7 @@ impl Rxdr {
 }
 
 // Transmit data register.
-#[derive(Clone, Copy)]
+#[derive(Clone, Copy, Debug, PartialEq, Eq)]
 pub struct Txdr(pub u32);
 
 impl Txdr {

@@ -1,4 +1,5 @@
 -- The step that is found for a number has that number. Assumes nothing.
+use Rattle.std.specs.Prelude.{Option, Some, None}
 use Prim.Native.Nat.{ℕ}
 use mathlib.Core.Path.{◌≡◌, sym}
 use mathlib.Core.List.{List, [], ◌∷◌}
@@ -7,12 +8,10 @@ use Rattle.calls.proofs.Logic.{by_test}
 use Rattle.calls.specs.Steps.{step_number, steps}
 use Rattle.calls.specs.declared.Step.{Step}
 use Rattle.saved.specs.Saved.{step_in, step_at}
-use Rattle.saved.specs.declared.step.FoundStep.{FoundStep}
-use Rattle.saved.specs.declared.step.FoundStep.TheVariants.{AStep, NoStep}
 
-abbrev pub Numbered : ℕ → FoundStep → Type 0
-Numbered n (AStep t) = step_number t ≡ n
-Numbered n NoStep = Unit {0}
+abbrev pub Numbered : ℕ → Option Step → Type 0
+Numbered n (Some t) = step_number t ≡ n
+Numbered n None = Unit {0}
 
 step_in_holds : (ts : List Step) (n : ℕ) → Numbered n (step_in ts n)
 step_in_holds [] n = tt

@@ -1,4 +1,5 @@
 -- Reading and writing a saved call undo each other. Assumes nothing.
+use Rattle.std.specs.Prelude.{Option, Some, None}
 use Prim.Native.Nat.{ℕ, ◌<◌}
 use native.Mathlib.Omega.{arith}
 use mathlib.Core.Path.{◌≡◌, refl, sym, ap, ◌∙◌}
@@ -23,26 +24,22 @@ use Rattle.words.proofs.Round.{words_back, whole_words}
 use Rattle.saved.proofs.Numbered.{Numbered, number_back}
 use Rattle.saved.specs.Range.{OfWords}
 use Rattle.saved.specs.Saved.{step_at, outcome_in, outcomes, outcome_at, outcome_place, value_place, step_place, saved_words, saved_count, saved_length, saved_bytes, is_outcome, is_step, is_saved, outcome_of, step_of, saved_with, saved_in}
-use Rattle.saved.specs.declared.outcome.FoundOutcome.{FoundOutcome}
-use Rattle.saved.specs.declared.outcome.FoundOutcome.TheVariants.{AnOutcome, NoOutcome}
-use Rattle.saved.specs.declared.step.FoundStep.{FoundStep}
-use Rattle.saved.specs.declared.step.FoundStep.TheVariants.{AStep, NoStep}
 
 -- ---- steps
-abbrev found : Step → FoundStep → Bool
-found t (AStep u) = same_step u t
-found t NoStep = false
+abbrev found : Step → Option Step → Bool
+found t (Some u) = same_step u t
+found t None = false
 
-the_step : (t : Step) (f : FoundStep) → T (found t f) → f ≡ AStep t
-the_step t (AStep u) h = ap AStep (is_eq u t h)
-the_step t NoStep h = absurd h
+the_step : (t : Step) (f : Option Step) → T (found t f) → f ≡ Some t
+the_step t (Some u) h = ap Some (is_eq u t h)
+the_step t None h = absurd h
 
-step_back : (t : Step) → step_at (step_number t) ≡ AStep t
+step_back : (t : Step) → step_at (step_number t) ≡ Some t
 unfolding step_at
 step_back t = the_step t (step_at (step_number t)) (every_step (λ u. found u (step_at (step_number u))) tt t)
 
 -- ---- outcomes
-outcome_back : (o : Outcome) → outcome_at (outcome_number o) (outcome_value o) ≡ AnOutcome o
+outcome_back : (o : Outcome) → outcome_at (outcome_number o) (outcome_value o) ≡ Some o
 unfolding outcome_at
 outcome_back (Done n) = rw (eq-eqb n n refl)
 outcome_back Bus = refl
@@ -55,9 +52,9 @@ outcome_back (EventRead n) = rw (eq-eqb n n refl)
 outcome_back (EventWrite n) = rw (eq-eqb n n refl)
 outcome_back EventStop = refl
 
-abbrev Valued : ℕ → ℕ → FoundOutcome → Type 0
-Valued n v (AnOutcome o) = (outcome_number o ≡ n) × (outcome_value o ≡ v)
-Valued n v NoOutcome = Unit {0}
+abbrev Valued : ℕ → ℕ → Option Outcome → Type 0
+Valued n v (Some o) = (outcome_number o ≡ n) × (outcome_value o ≡ v)
+Valued n v None = Unit {0}
 
 outcome_in_holds : (os : List Outcome) (n v : ℕ) → Valued n v (outcome_in os n v)
 outcome_in_holds [] n v = tt
@@ -104,12 +101,12 @@ by_place : (b : List ℕ) → length b ≡ saved_length → words_in b ≡ map (
 unfolding words_in
 by_place b h = rw h
 
-read_words : (b : List ℕ) (f : FoundStep) (g : FoundOutcome) → T (is_step f && is_outcome g) →
+read_words : (b : List ℕ) (f : Option Step) (g : Option Outcome) → T (is_step f && is_outcome g) →
     Numbered (word_at b step_place) f → Valued (word_at b outcome_place) (word_at b value_place) g →
     saved_words (saved_with b f g) ≡ map (word_at b) (range 0 saved_count)
-read_words b (AStep t) (AnOutcome o) h p q = rw (p, q.0, q.1)
-read_words b (AStep t) NoOutcome h p q = absurd h
-read_words b NoStep g h p q = absurd h
+read_words b (Some t) (Some o) h p q = rw (p, q.0, q.1)
+read_words b (Some t) None h p q = absurd h
+read_words b None g h p q = absurd h
 
 -- writing what was read gives the bytes back
 pub written_read : (b : List ℕ) → T (is_saved b) → Below 256 b → saved_bytes (saved_in b) ≡ b
@@ -134,10 +131,10 @@ unfolding is_saved saved_bytes
 written_saved s h = rw (words_back (saved_words s) (words_below s h), outcome_back s.outcome, step_back s.step) tt
 
 -- and bytes that are none are read as what no advance takes
-no_parts : (b : List ℕ) (f : FoundStep) (g : FoundOutcome) → T (not (is_step f && is_outcome g)) → saved_with b f g ≡ no_call
-no_parts b (AStep t) (AnOutcome o) h = absurd h
-no_parts b (AStep t) NoOutcome h = refl
-no_parts b NoStep g h = refl
+no_parts : (b : List ℕ) (f : Option Step) (g : Option Outcome) → T (not (is_step f && is_outcome g)) → saved_with b f g ≡ no_call
+no_parts b (Some t) (Some o) h = absurd h
+no_parts b (Some t) None h = refl
+no_parts b None g h = refl
 
 pub none_read : (b : List ℕ) → T (not (is_saved b)) → saved_in b ≡ no_call
 unfolding is_saved saved_in

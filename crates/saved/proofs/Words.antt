@@ -1,6 +1,7 @@
 -- The numbers of a run are words: of a saved call that begin gives or that a run over answers of 32 bits comes to, as
 -- `read_written` asks, and of the entries that the run makes; and the buffer's are bytes still. `begin_words` and
 -- `run_in_range` are the theorems. Assumes nothing.
+use Rattle.std.specs.Prelude.{Option, Some, None, Ok}
 use Prim.Native.Nat.{ℕ, zero, suc, ◌-◌, ◌≤◌, ◌<◌}
 use native.Mathlib.Omega.{arith}
 use mathlib.Core.Path.{◌≡◌, refl}
@@ -33,28 +34,22 @@ use Rattle.calls.specs.declared.Access.TheVariants.{Read, Take, Write, Nothing}
 use Rattle.calls.specs.declared.AddressMode.{AddressMode}
 use Rattle.calls.specs.declared.AddressMode.TheVariants.{AddressMode7bit, AddressMode10bit}
 use Rattle.calls.specs.declared.Call.{Call}
-use Rattle.calls.specs.declared.Configuration.{Configuration}
-use Rattle.calls.specs.declared.Configuration.TheVariants.{Unconfigured, Configured}
 use Rattle.calls.specs.declared.Description.{Description}
 use Rattle.calls.specs.declared.Flag.{Flag}
 use Rattle.calls.specs.declared.Flag.TheVariants.{Rxne, Txis, Tc, Tcr, Stopf, Never}
-use Rattle.calls.specs.declared.MaskBits.{MaskBits}
-use Rattle.calls.specs.declared.MaskBits.TheVariants.{Unmasked, Masked}
 use Rattle.calls.specs.declared.Modify.{Modify}
 use Rattle.calls.specs.declared.Modify.TheVariants.{PeOff, PeOn, Listen, NackSet, ReloadOff, SbcOff, ReloadClear, SbcOn, ReloadOn, NbytesSet}
 use Rattle.calls.specs.declared.Outcome.{Outcome}
 use Rattle.calls.specs.declared.SavedCall.{SavedCall}
-use Rattle.calls.specs.declared.SecondaryAddress.{SecondaryAddress}
-use Rattle.calls.specs.declared.SecondaryAddress.TheVariants.{NoSecondary, Secondary as AlsoAt}
 use Rattle.calls.specs.declared.Step.{Step}
 use Rattle.calls.specs.declared.Step.TheVariants.{Ended, Begin, StartStatus, StartControl, Wait, Byte, StopClear, BusClear, ArbitrationClear, NackClear, FlushTxis, FlushByte, FlushTxe, Flush, Timing, Own, Secondary, Enable, Delay1, Delay2, Disabled, Event, EventFlush, EventClear, Address, TransferClear, ModifyRead, ModifyWrite}
 use Rattle.calls.specs.declared.Effect.{Effect}
 use Rattle.calls.specs.declared.Effect.TheVariants.{Goes, Loads, Notes, Next, Enters, Fails, Ends}
-use Rattle.calls.specs.declared.Verdict.TheVariants.{Accepted}
 use Rattle.calls.specs.declared.View.{View}
 use Rattle.words.proofs.Round.{below_at}
 use Rattle.words.specs.Words.{Below}
 use Rattle.saved.specs.Range.{OfWords, InRange, RunInRange}
+use Rattle.calls.specs.declared.TargetConfig.{TargetConfig}
 
 abbrev word : ℕ
 word = 4294967296
@@ -108,7 +103,7 @@ small_pieces c ops n f =
 abbrev pub SmallFor : Request → Type 0
 SmallFor q = Small (most_of q) (pieces_of q)
 
-pub accepted_small : (c : Call) (d : Description) (ops : List ℕ) (n : ℕ) → check_of d ops n ≡ Accepted c → SmallFor (request_of c d ops n)
+pub accepted_small : (c : Call) (d : Description) (ops : List ℕ) (n : ℕ) → check_of d ops n ≡ Ok c → SmallFor (request_of c d ops n)
 accepted_small c d ops n e = small_pieces c ops n (accepted_fit c d ops n e)
 
 -- ---- the value of the outcome that an answer leads to
@@ -204,20 +199,20 @@ own_below : (m : AddressMode) (own : ℕ) → own_word m own < word
 own_below AddressMode7bit own = search put
 own_below AddressMode10bit own = search put
 
-secondary_below : (a : SecondaryAddress) (m : MaskBits) → secondary_word a m < word
-secondary_below NoSecondary m = no_word
-secondary_below (AlsoAt address) Unmasked = search put
-secondary_below (AlsoAt address) (Masked bits) = search put
+secondary_below : (a : Option ℕ) (m : Option ℕ) → secondary_word a m < word
+secondary_below None m = no_word
+secondary_below (Some address) None = search put
+secondary_below (Some address) (Some bits) = search put
 
-oar1_below : (t : Configuration) → oar1_of t < word
+oar1_below : (t : Option TargetConfig) → oar1_of t < word
 unfolding oar1_of
-oar1_below Unconfigured = no_word
-oar1_below (Configured t) = own_below t.mode t.own
+oar1_below None = no_word
+oar1_below (Some t) = own_below t.mode t.own
 
-oar2_below : (t : Configuration) → oar2_of t < word
+oar2_below : (t : Option TargetConfig) → oar2_of t < word
 unfolding oar2_of
-oar2_below Unconfigured = no_word
-oar2_below (Configured t) = secondary_below t.secondary t.mask
+oar2_below None = no_word
+oar2_below (Some t) = secondary_below t.secondary t.mask
 
 module _ (c : Call) (d : Description) (v : View) (b : List ℕ) (s : SavedCall) (bytes : Below 256 b) (w : s.word < word) where
   alters : (m : Modify) → alter_of c d v s.word m < word

@@ -1,24 +1,28 @@
 -- The saved call as bytes: its words, little-endian, one after the other. Assumes nothing.
-use Rattle.std.specs.Prelude.{ℕ, ◌+◌, ◌*◌, Bool, true, false, cond, ◌&&◌, List, [], ◌∷◌, eqb, length}
+use Rattle.std.specs.Prelude.{ℕ, ◌+◌, ◌*◌, Bool, true, false, cond, ◌&&◌, List, [], ◌∷◌, eqb, length, Option, Some, None}
 use Rattle.calls.specs.Outcomes.{outcome_number, outcome_value}
 use Rattle.calls.specs.Run.{no_call}
-use Rattle.calls.specs.Steps.{step_number, steps}
+use Rattle.calls.specs.Steps.{modify_number, modifies, step_number, steps}
+use Rattle.calls.specs.declared.Modify.{Modify}
 use Rattle.calls.specs.declared.Outcome.{Outcome}
 use Rattle.calls.specs.declared.Outcome.TheVariants.{Done, Bus, Arbitration, Nack, Stopped, ExpectedWrite, ExpectedRead, EventRead, EventWrite, EventStop}
 use Rattle.calls.specs.declared.SavedCall.{SavedCall}
 use Rattle.calls.specs.declared.Step.{Step}
 use Rattle.words.specs.Words.{word_at, bytes_of}
-use Rattle.saved.specs.declared.outcome.FoundOutcome.{FoundOutcome}
-use Rattle.saved.specs.declared.outcome.FoundOutcome.TheVariants.{AnOutcome, NoOutcome}
-use Rattle.saved.specs.declared.step.FoundStep.{FoundStep}
-use Rattle.saved.specs.declared.step.FoundStep.TheVariants.{AStep, NoStep}
 
--- ---- The step of a number
-abbrev pub step_in : List Step → ℕ → FoundStep
-step_in [] n = NoStep
-step_in (t ∷ ts) n = cond (eqb n (step_number t)) (AStep t) (step_in ts n)
+-- ---- The modify of a number, and the step of one
+abbrev pub modify_in : List Modify → ℕ → Option Modify
+modify_in [] n = None
+modify_in (m ∷ ms) n = cond (eqb n (modify_number m)) (Some m) (modify_in ms n)
 
-unfoldable pub step_at : ℕ → FoundStep
+unfoldable pub modify_at : ℕ → Option Modify
+modify_at n = modify_in modifies n
+
+abbrev pub step_in : List Step → ℕ → Option Step
+step_in [] n = None
+step_in (t ∷ ts) n = cond (eqb n (step_number t)) (Some t) (step_in ts n)
+
+unfoldable pub step_at : ℕ → Option Step
 step_at n = step_in steps n
 
 -- ---- The outcome of a number and a value. One that comes with nothing has the value 0.
@@ -26,11 +30,11 @@ abbrev pub outcomes : ℕ → List Outcome
 outcomes v =
     Done v ∷ Bus ∷ Arbitration ∷ Nack ∷ Stopped ∷ ExpectedWrite ∷ ExpectedRead ∷ EventRead v ∷ EventWrite v ∷ EventStop ∷ []
 
-abbrev pub outcome_in : List Outcome → ℕ → ℕ → FoundOutcome
-outcome_in [] n v = NoOutcome
-outcome_in (o ∷ os) n v = cond (eqb n (outcome_number o)) (cond (eqb v (outcome_value o)) (AnOutcome o) NoOutcome) (outcome_in os n v)
+abbrev pub outcome_in : List Outcome → ℕ → ℕ → Option Outcome
+outcome_in [] n v = None
+outcome_in (o ∷ os) n v = cond (eqb n (outcome_number o)) (cond (eqb v (outcome_value o)) (Some o) None) (outcome_in os n v)
 
-unfoldable pub outcome_at : ℕ → ℕ → FoundOutcome
+unfoldable pub outcome_at : ℕ → ℕ → Option Outcome
 outcome_at n v = outcome_in (outcomes v) n v
 
 -- ---- The words of a saved call, and which word is which: each place follows the one before it
@@ -90,18 +94,18 @@ written_to bytes s = cond (eqb (length bytes) saved_length) (saved_bytes s) byte
 
 -- ---- The saved call of bytes. Bytes of another length, without such an outcome or without such a step are none; they are
 -- read as what a refused begin hands out, which no advance takes.
-abbrev pub is_step : FoundStep → Bool
-is_step (AStep t) = true
-is_step NoStep = false
+abbrev pub is_step : Option Step → Bool
+is_step (Some t) = true
+is_step None = false
 
-abbrev pub is_outcome : FoundOutcome → Bool
-is_outcome (AnOutcome o) = true
-is_outcome NoOutcome = false
+abbrev pub is_outcome : Option Outcome → Bool
+is_outcome (Some o) = true
+is_outcome None = false
 
-abbrev pub step_of : List ℕ → FoundStep
+abbrev pub step_of : List ℕ → Option Step
 step_of bytes = step_at (word_at bytes step_place)
 
-abbrev pub outcome_of : List ℕ → FoundOutcome
+abbrev pub outcome_of : List ℕ → Option Outcome
 outcome_of bytes = outcome_at (word_at bytes outcome_place) (word_at bytes value_place)
 
 unfoldable pub is_saved : List ℕ → Bool
@@ -120,10 +124,10 @@ saved_as bytes t o =
       step = t;
     }
 
-abbrev pub saved_with : List ℕ → FoundStep → FoundOutcome → SavedCall
-saved_with bytes (AStep t) (AnOutcome o) = saved_as bytes t o
-saved_with bytes (AStep t) NoOutcome = no_call
-saved_with bytes NoStep o = no_call
+abbrev pub saved_with : List ℕ → Option Step → Option Outcome → SavedCall
+saved_with bytes (Some t) (Some o) = saved_as bytes t o
+saved_with bytes (Some t) None = no_call
+saved_with bytes None o = no_call
 
 unfoldable pub saved_in : List ℕ → SavedCall
 saved_in bytes = cond (eqb (length bytes) saved_length) (saved_with bytes (step_of bytes) (outcome_of bytes)) no_call

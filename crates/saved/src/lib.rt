@@ -1,13 +1,12 @@
 // The saved call as bytes, and back. Each function equals its definition in specs/.
 #![tactic(auto)]
 
-ghost use Rattle.std.specs.Prelude.{◌≡◌};
-ghost use Rattle.saved.specs.Saved.{step_of, outcome_of, saved_as, saved_with, saved_in, written_to};
+ghost use Rattle.std.specs.Prelude.{◌≡◌, unwrap_or};
+ghost use Rattle.calls.specs.Run.{no_call};
+ghost use Rattle.saved.specs.Saved.{saved_in, written_to};
 
-use calls::{Outcome, SavedCall, Step};
+use calls::SavedCall;
 use kinds::saved_call;
-use outcome::FoundOutcome;
-use step::FoundStep;
 
 mod outcome;
 mod step;
@@ -33,71 +32,48 @@ const OUT: usize = STEP + 1;
 
 pub const LENGTH: usize = 4 * (OUT + 1);
 
-fn step_of(bytes: &[u8]) -> FoundStep
-    ensures { result ≡ step_of bytes.now }
+// The saved call that bytes are, if they have the length of one, and a step and an outcome.
+#[tactic(auto, unfolding(crate::specs::Saved::saved_in))]
+fn found(bytes: &[u8]) -> Option<SavedCall>
+    ensures { unwrap_or result no_call ≡ saved_in bytes.now }
 {
-    step::step_at(words::get(bytes, STEP))
-}
-
-fn outcome_of(bytes: &[u8]) -> FoundOutcome
-    ensures { result ≡ outcome_of bytes.now }
-{
-    outcome::outcome_at(words::get(bytes, OUTCOME), words::get(bytes, VALUE))
-}
-
-fn read_as(bytes: &[u8], step: Step, outcome: Outcome) -> SavedCall
-    ensures { result ≡ saved_as bytes.now step outcome }
-{
-    SavedCall {
+    if bytes.len() != LENGTH {
+        return None;
+    }
+    Some(SavedCall {
         call: words::get(bytes, CALL),
         piece: words::get(bytes, PIECE),
         byte: words::get(bytes, BYTE),
         out: words::get(bytes, OUT),
         word: words::get(bytes, WORD),
         accesses: words::get(bytes, ACCESSES),
-        outcome,
-        step,
-    }
-}
-
-fn read_with(bytes: &[u8], step: FoundStep, outcome: FoundOutcome) -> SavedCall
-    ensures { result ≡ saved_with bytes.now step outcome }
-{
-    match step {
-        FoundStep::AStep(t) => match outcome {
-            FoundOutcome::AnOutcome(o) => read_as(bytes, t, o),
-            FoundOutcome::NoOutcome => saved_call::no_call(),
-        },
-        FoundStep::NoStep => saved_call::no_call(),
-    }
+        outcome: outcome::outcome_at(words::get(bytes, OUTCOME), words::get(bytes, VALUE))?,
+        step: step::step_at(words::get(bytes, STEP))?,
+    })
 }
 
 // The saved call that bytes are; what no advance takes, where they are none.
 pub fn read(bytes: &[u8]) -> SavedCall
     ensures { result ≡ saved_in bytes.now }
 {
-    if bytes.len() == LENGTH {
-        return read_with(bytes, step_of(bytes), outcome_of(bytes));
-    }
-    saved_call::no_call()
+    found(bytes).unwrap_or(saved_call::no_call())
 }
 
 // Writes a saved call to bytes of that length, and nothing to others.
+#[tactic(auto, unfolding(crate::specs::Saved::written_to, crate::specs::Saved::saved_bytes, words::specs::Words::put_words))]
 pub fn write(s: SavedCall, bytes: &mut [u8])
     ensures { bytes.new ≡ written_to bytes.old s }
 {
     if bytes.len() == LENGTH {
-        let outcome = s.outcome;
-        let step = s.step;
         let all = [
             s.call,
             s.piece,
             s.byte,
             s.word,
             s.accesses,
-            kinds::outcome::number(outcome),
-            kinds::outcome::value(outcome),
-            step::step_number(step),
+            kinds::outcome::number(s.outcome),
+            kinds::outcome::value(s.outcome),
+            step::step_number(s.step),
             s.out,
         ];
         words::encode(&all, bytes);

@@ -1,31 +1,15 @@
 // A step's number, and the step of a number.
+// By hand: a `From` or a `TryFrom` of `Step` would stand in `calls`, and only saved bytes have a step's number.
 ghost use Rattle.std.specs.Prelude.{◌≡◌, ◌≤◌};
 ghost use Rattle.calls.specs.Steps.{modify_number, step_number};
-ghost use Rattle.saved.specs.Saved.{step_at};
+ghost use Rattle.saved.specs.Saved.{modify_at, step_at};
 
 use calls::{Modify, Step};
-
-#[derive(Clone, Copy)]
-pub enum FoundStep {
-    AStep(Step),
-    NoStep,
-}
 
 fn modify_number(m: Modify) -> u32
     ensures { (result ≡ modify_number m) × (result ≤ 9) }
 {
-    match m {
-        Modify::PeOff => 0,
-        Modify::PeOn => 1,
-        Modify::Listen => 2,
-        Modify::NackSet => 3,
-        Modify::ReloadOff => 4,
-        Modify::SbcOff => 5,
-        Modify::ReloadClear => 6,
-        Modify::SbcOn => 7,
-        Modify::ReloadOn => 8,
-        Modify::NbytesSet => 9,
-    }
+    m as u32
 }
 
 pub fn step_number(t: Step) -> u32
@@ -63,56 +47,58 @@ pub fn step_number(t: Step) -> u32
     }
 }
 
-pub fn step_at(n: u32) -> FoundStep
+#[tactic(auto, unfolding(crate::specs::Saved::modify_at))]
+fn modify_at(n: u32) -> Option<Modify>
+    ensures { result ≡ modify_at n }
+{
+    match n {
+        0 => Some(Modify::PeOff),
+        1 => Some(Modify::PeOn),
+        2 => Some(Modify::Listen),
+        3 => Some(Modify::NackSet),
+        4 => Some(Modify::ReloadOff),
+        5 => Some(Modify::SbcOff),
+        6 => Some(Modify::ReloadClear),
+        7 => Some(Modify::SbcOn),
+        8 => Some(Modify::ReloadOn),
+        9 => Some(Modify::NbytesSet),
+        _ => None,
+    }
+}
+
+#[tactic(auto, unfolding(crate::specs::Saved::step_at), using(crate::proofs::Arms::read_at, crate::proofs::Arms::write_at))]
+pub fn step_at(n: u32) -> Option<Step>
     ensures { result ≡ step_at n }
 {
     match n {
-        0 => FoundStep::AStep(Step::Ended),
-        1 => FoundStep::AStep(Step::Begin),
-        2 => FoundStep::AStep(Step::StartStatus),
-        3 => FoundStep::AStep(Step::StartControl),
-        4 => FoundStep::AStep(Step::Wait),
-        5 => FoundStep::AStep(Step::Byte),
-        6 => FoundStep::AStep(Step::StopClear),
-        7 => FoundStep::AStep(Step::BusClear),
-        8 => FoundStep::AStep(Step::ArbitrationClear),
-        9 => FoundStep::AStep(Step::NackClear),
-        10 => FoundStep::AStep(Step::FlushTxis),
-        11 => FoundStep::AStep(Step::FlushByte),
-        12 => FoundStep::AStep(Step::FlushTxe),
-        13 => FoundStep::AStep(Step::Flush),
-        14 => FoundStep::AStep(Step::Timing),
-        15 => FoundStep::AStep(Step::Own),
-        16 => FoundStep::AStep(Step::Secondary),
-        17 => FoundStep::AStep(Step::Enable),
-        18 => FoundStep::AStep(Step::Delay1),
-        19 => FoundStep::AStep(Step::Delay2),
-        20 => FoundStep::AStep(Step::Disabled),
-        21 => FoundStep::AStep(Step::Event),
-        22 => FoundStep::AStep(Step::EventFlush),
-        23 => FoundStep::AStep(Step::EventClear),
-        24 => FoundStep::AStep(Step::Address),
-        25 => FoundStep::AStep(Step::TransferClear),
-        26 => FoundStep::AStep(Step::ModifyRead(Modify::PeOff)),
-        27 => FoundStep::AStep(Step::ModifyRead(Modify::PeOn)),
-        28 => FoundStep::AStep(Step::ModifyRead(Modify::Listen)),
-        29 => FoundStep::AStep(Step::ModifyRead(Modify::NackSet)),
-        30 => FoundStep::AStep(Step::ModifyRead(Modify::ReloadOff)),
-        31 => FoundStep::AStep(Step::ModifyRead(Modify::SbcOff)),
-        32 => FoundStep::AStep(Step::ModifyRead(Modify::ReloadClear)),
-        33 => FoundStep::AStep(Step::ModifyRead(Modify::SbcOn)),
-        34 => FoundStep::AStep(Step::ModifyRead(Modify::ReloadOn)),
-        35 => FoundStep::AStep(Step::ModifyRead(Modify::NbytesSet)),
-        36 => FoundStep::AStep(Step::ModifyWrite(Modify::PeOff)),
-        37 => FoundStep::AStep(Step::ModifyWrite(Modify::PeOn)),
-        38 => FoundStep::AStep(Step::ModifyWrite(Modify::Listen)),
-        39 => FoundStep::AStep(Step::ModifyWrite(Modify::NackSet)),
-        40 => FoundStep::AStep(Step::ModifyWrite(Modify::ReloadOff)),
-        41 => FoundStep::AStep(Step::ModifyWrite(Modify::SbcOff)),
-        42 => FoundStep::AStep(Step::ModifyWrite(Modify::ReloadClear)),
-        43 => FoundStep::AStep(Step::ModifyWrite(Modify::SbcOn)),
-        44 => FoundStep::AStep(Step::ModifyWrite(Modify::ReloadOn)),
-        45 => FoundStep::AStep(Step::ModifyWrite(Modify::NbytesSet)),
-        _ => FoundStep::NoStep,
+        0 => Some(Step::Ended),
+        1 => Some(Step::Begin),
+        2 => Some(Step::StartStatus),
+        3 => Some(Step::StartControl),
+        4 => Some(Step::Wait),
+        5 => Some(Step::Byte),
+        6 => Some(Step::StopClear),
+        7 => Some(Step::BusClear),
+        8 => Some(Step::ArbitrationClear),
+        9 => Some(Step::NackClear),
+        10 => Some(Step::FlushTxis),
+        11 => Some(Step::FlushByte),
+        12 => Some(Step::FlushTxe),
+        13 => Some(Step::Flush),
+        14 => Some(Step::Timing),
+        15 => Some(Step::Own),
+        16 => Some(Step::Secondary),
+        17 => Some(Step::Enable),
+        18 => Some(Step::Delay1),
+        19 => Some(Step::Delay2),
+        20 => Some(Step::Disabled),
+        21 => Some(Step::Event),
+        22 => Some(Step::EventFlush),
+        23 => Some(Step::EventClear),
+        24 => Some(Step::Address),
+        25 => Some(Step::TransferClear),
+        26..=35 => modify_at(n - 26).map(Step::ModifyRead),
+        36..=45 => modify_at(n - 36).map(Step::ModifyWrite),
+        _ => None,
     }
 }

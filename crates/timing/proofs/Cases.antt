@@ -1,5 +1,6 @@
 -- Document 01's "Proved cases": ten timings, and the OAR1 and OAR2 words of two addresses, as one computed table.
 -- Assumes nothing.
+use Rattle.std.specs.Prelude.{Result, Ok, Err}
 use mathlib.Core.Path.{◌≡◌, refl}
 use mathlib.Core.List.{List, [], ◌∷◌, map}
 use Prim.Native.Nat.{ℕ}
@@ -8,16 +9,16 @@ use Rattle.registers.specs.Addresses.{seven_bit_own, masked}
 use Rattle.timing.specs.Bands.{timing_of, band_of, in_band_of, equal_at, double_at}
 use Rattle.timing.specs.Refusals.{timing_refusal_number}
 use Rattle.timing.specs.Timingr.{timingr_word}
-use Rattle.timing.specs.declared.Timed.{Timed}
-use Rattle.timing.specs.declared.Timed.TheVariants.{Timing, Refused}
+use Rattle.timing.specs.declared.I2cTiming.{I2cTiming}
+use Rattle.timing.specs.declared.TimingRefusal.{TimingRefusal}
 
 pub data Answer : Type 0 where
   word : ℕ → Answer
   refused : ℕ → Answer
 
-abbrev pub answer_of : Timed → Answer
-answer_of (Timing t) = word (timingr_word t)
-answer_of (Refused why) = refused (timing_refusal_number why)
+abbrev pub answer_of : Result I2cTiming TimingRefusal → Answer
+answer_of (Ok t) = word (timingr_word t)
+answer_of (Err why) = refused (timing_refusal_number why)
 
 -- what is asked: a timing of clock and frequency, OAR1 of an own address, OAR2 of a secondary one and its mask
 pub data Question : Type 0 where

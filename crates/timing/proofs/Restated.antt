@@ -1,6 +1,7 @@
 -- What `pack`, `unpack` and `TimingRefusal::number` give a caller, once more and in plain arithmetic: TIMINGR's word as a sum and its
 -- fields as quotients. A contract that loses a fact, and its proof with it, fails here.
 -- Assumes nothing.
+use Rattle.std.specs.Prelude.{Ok, Err}
 use Prim.Native.Nat.{ℕ, ◌+◌, ◌*◌, ◌/◌, ◌%◌, ◌^◌, ◌<◌, max}
 use native.Mathlib.Omega.{arith}
 use mathlib.Core.Path.{◌≡◌, refl, ap, ◌∙◌}
@@ -14,7 +15,6 @@ use Rattle.fields.proofs.Laws.{and_l, and_r}
 use Rattle.fields.specs.Field.{get_of, bits_at}
 use Rattle.timing.specs.Refusals.{timing_refusal_number}
 use Rattle.timing.specs.Timingr.{pack_of, unpack_of}
-use Rattle.timing.specs.declared.Packed.TheVariants as packed
 use Rattle.timing.specs.declared.TimingRefusal.{TimingRefusal}
 use Rattle.timing.specs.declared.TimingRefusal.TheVariants.{NoSpeed, ClockOver, Ratio, ClockSlow, SpeedLow, NoSetup, FieldWide, BadBands, NoBand}
 use Rattle.timing.proofs.Round.{Within, packs, sum}
@@ -53,10 +53,10 @@ wide x y z h = not_so (leb x 15 && (leb y 15 && leb z 15)) (λ t.
 module _ (κs : Lfts 0) (a : borrow.Fn.World.ArgsD pack.signature κs) (p : borrow.Fn.World.ResD pack.signature κs)
     (x : denote.Triple.Clauses.AtExit (borrow.Fn.Kinds.ended_of 0 pack-kinds.ps pack-kinds.r) κs) (contract : pack-reads.Post κs a p x) where
   pub packed_word : Within a.0 →
-      p ≡ packed.Raw (record { 0 = a.0.presc * 2 ^ 28 + (a.0.scldel * 2 ^ 20 + (a.0.sdadel * 2 ^ 16 + (a.0.sclh * 2 ^ 8 + a.0.scll))) })
-  packed_word w = contract ∙ packs a.0 w ∙ ap (λ (n : ℕ). packed.Raw (record { 0 = n })) (sum a.0 w)
+      p ≡ Ok (record { 0 = a.0.presc * 2 ^ 28 + (a.0.scldel * 2 ^ 20 + (a.0.sdadel * 2 ^ 16 + (a.0.sclh * 2 ^ 8 + a.0.scll))) })
+  packed_word w = contract ∙ packs a.0 w ∙ ap (λ (n : ℕ). Ok (record { 0 = n })) (sum a.0 w)
 
-  pub refused_7 : 15 < max a.0.presc (max a.0.scldel a.0.sdadel) → p ≡ packed.Refused FieldWide
+  pub refused_7 : 15 < max a.0.presc (max a.0.scldel a.0.sdadel) → p ≡ Err FieldWide
   unfolding pack_of
   refused_7 h = contract ∙ rw (wide a.0.presc a.0.scldel a.0.sdadel h)
 

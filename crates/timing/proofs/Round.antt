@@ -1,5 +1,6 @@
 -- Packing and unpacking undo each other (demand 2), for fields within their widths and for words whose bits 24 to 27
 -- are 0. Assumes nothing.
+use Rattle.std.specs.Prelude.{Ok}
 use mathlib.Core.Path.{◌≡◌, ap, ◌∙◌}
 use Prim.Native.Nat.{ℕ, ◌+◌, ◌*◌, ◌/◌, ◌%◌, ◌^◌, ◌<◌}
 use native.Mathlib.Nat.{mod-eq_of_lt, div-one}
@@ -12,7 +13,6 @@ use Rattle.registers.specs.Places.{TIMINGR_PRESC, TIMINGR_SCLDEL, TIMINGR_SDADEL
 use Rattle.timing.specs.Timingr.{timingr_word, raw_of, pack_of, reserved, unpack_of}
 use Rattle.timing.specs.declared.I2cTiming.{I2cTiming}
 use Rattle.timing.specs.declared.RawTimingr.{RawTimingr}
-use Rattle.timing.specs.declared.Packed.TheVariants.{Raw}
 
 pub record Within (t : I2cTiming) : Type 0 where
   pub presc : t.presc < 16
@@ -26,7 +26,7 @@ same : {p p' s s' d d' h h' l l' : ℕ} → p ≡ p' → s ≡ s' → d ≡ d' �
 same e₁ e₂ e₃ e₄ e₅ = cc
 
 -- a timing within the widths is packed, and unpacking its word gives it back
-pub packs : (t : I2cTiming) → Within t → pack_of t ≡ Raw (raw_of t)
+pub packs : (t : I2cTiming) → Within t → pack_of t ≡ Ok (raw_of t)
 unfolding pack_of
 packs t b = simp (le-leb t.presc 15 (omega arith), le-leb t.scldel 15 (omega arith), le-leb t.sdadel 15 (omega arith))
 
@@ -89,7 +89,7 @@ whole r h z =
     digits w (w / 2 ^ 8) (w / 2 ^ 16) (w / 2 ^ 20) (w / 2 ^ 24) (w / 2 ^ 28) _ _ _ _ _ _
     (step w 0 8 ∙ div-one w) (step w 8 8) (step w 16 4) (step w 20 4) (step w 24 4) z (shr_mod 4 28 h)
 
-pub pack_unpack : (r : RawTimingr) → r.0 < 2 ^ 32 → get_of r.0 reserved ≡ 0 → pack_of (unpack_of r) ≡ Raw r
+pub pack_unpack : (r : RawTimingr) → r.0 < 2 ^ 32 → get_of r.0 reserved ≡ 0 → pack_of (unpack_of r) ≡ Ok r
 pack_unpack r h z =
     packs (unpack_of r) (within r)
-    ∙ ap (λ (x : ℕ). Raw (record { 0 = x })) (sum (unpack_of r) (within r) ∙ whole r h z)
+    ∙ ap (λ (x : ℕ). Ok (record { 0 = x })) (sum (unpack_of r) (within r) ∙ whole r h z)

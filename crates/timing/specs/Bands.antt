@@ -1,13 +1,12 @@
 -- The timing of a bus frequency from a kernel clock, both in hertz (document 01, "Leaves": the table of bands and the
 -- lines around it; refusals 1 to 6 in their order). All divisions are whole. Assumes nothing.
-use Rattle.std.specs.Prelude.{ℕ, ◌+◌, ◌-◌, ◌*◌, ◌/◌, min, max, cond, List, [], ◌∷◌, eqb, leb, ltb}
+use Rattle.std.specs.Prelude.{ℕ, ◌+◌, ◌-◌, ◌*◌, ◌/◌, min, max, cond, List, [], ◌∷◌, eqb, leb, ltb, Result, Ok, Err}
 use Rattle.timing.specs.declared.Band.{Band}
 use Rattle.timing.specs.declared.Shape.{Shape}
 use Rattle.timing.specs.declared.Shape.TheVariants.{Equal, Double}
 use Rattle.timing.specs.declared.I2cTiming.{I2cTiming}
-use Rattle.timing.specs.declared.Timed.{Timed}
-use Rattle.timing.specs.declared.Timed.TheVariants.{Timing, Refused}
 use Rattle.timing.specs.declared.TimingRefusal.TheVariants.{NoSpeed, ClockOver, Ratio, ClockSlow, SpeedLow, NoSetup}
+use Rattle.timing.specs.declared.TimingRefusal.{TimingRefusal}
 
 abbrev pub row : ℕ → ℕ → ℕ → ℕ → ℕ → Shape → Band
 row upper least d sdadel scldel shape =
@@ -53,30 +52,30 @@ fields_of clock b p sclh scll =
     }
 
 -- Up to 100 kHz both halves are (c - 2) / 2.
-unfoldable pub equal_at : ℕ → ℕ → Band → ℕ → Timed
+unfoldable pub equal_at : ℕ → ℕ → Band → ℕ → Result I2cTiming TimingRefusal
 equal_at clock r b p =
     let half = (r / p - 2) / 2 in
-    cond (eqb (clock / b.scldel / p) 0) (Refused NoSetup)
-    (Timing (fields_of clock b p half half))
+    cond (eqb (clock / b.scldel / p) 0) (Err NoSetup)
+    (Ok (fields_of clock b p half half))
 
 -- Above, the high part is (c - 3) / 3 and the low one twice as long.
-unfoldable pub double_at : ℕ → ℕ → Band → ℕ → Timed
+unfoldable pub double_at : ℕ → ℕ → Band → ℕ → Result I2cTiming TimingRefusal
 double_at clock r b p =
     let high = (r / p - 3) / 3 in
-    Timing (fields_of clock b p high (2 * (high + 1) - 1))
+    Ok (fields_of clock b p high (2 * (high + 1) - 1))
 
 -- Which prescaler: up to 100 kHz at most 16.
-abbrev pub shaped_of : Shape → ℕ → ℕ → Band → Timed
-shaped_of Equal clock r b = cond (leb 8224 r) (Refused SpeedLow) (equal_at clock r b (min 16 (divider_of r b.d)))
-shaped_of Double clock r b = cond (leb 1537 r) (Refused SpeedLow) (double_at clock r b (divider_of r b.d))
+abbrev pub shaped_of : Shape → ℕ → ℕ → Band → Result I2cTiming TimingRefusal
+shaped_of Equal clock r b = cond (leb 8224 r) (Err SpeedLow) (equal_at clock r b (min 16 (divider_of r b.d)))
+shaped_of Double clock r b = cond (leb 1537 r) (Err SpeedLow) (double_at clock r b (divider_of r b.d))
 
 -- A cycle of r clocks in a band.
-unfoldable pub in_band_of : ℕ → ℕ → Band → Timed
-in_band_of clock r b = cond (ltb clock b.least) (Refused ClockSlow) (shaped_of b.shape clock r b)
+unfoldable pub in_band_of : ℕ → ℕ → Band → Result I2cTiming TimingRefusal
+in_band_of clock r b = cond (ltb clock b.least) (Err ClockSlow) (shaped_of b.shape clock r b)
 
-unfoldable pub timing_of : ℕ → ℕ → Timed
+unfoldable pub timing_of : ℕ → ℕ → Result I2cTiming TimingRefusal
 timing_of clock frequency =
-    cond (eqb frequency 0) (Refused NoSpeed)
-    (cond (ltb 250000000 clock) (Refused ClockOver)
-    (cond (ltb (clock / frequency) 4) (Refused Ratio)
+    cond (eqb frequency 0) (Err NoSpeed)
+    (cond (ltb 250000000 clock) (Err ClockOver)
+    (cond (ltb (clock / frequency) 4) (Err Ratio)
     (in_band_of clock (clock / frequency) (band_of frequency))))

@@ -1,12 +1,11 @@
 -- A timing packed into a TIMINGR word and a word taken apart (RM0492, TIMINGR; document 01, refusal 7). Assumes nothing.
-use Rattle.std.specs.Prelude.{ℕ, cond, ◌&&◌, leb}
+use Rattle.std.specs.Prelude.{ℕ, cond, ◌&&◌, leb, Result, Ok, Err}
 use Rattle.fields.specs.Field.{Place, place, get_of, put_of}
 use Rattle.registers.specs.Places.{TIMINGR_PRESC, TIMINGR_SCLDEL, TIMINGR_SDADEL, TIMINGR_SCLH, TIMINGR_SCLL}
 use Rattle.timing.specs.declared.I2cTiming.{I2cTiming}
 use Rattle.timing.specs.declared.RawTimingr.{RawTimingr}
-use Rattle.timing.specs.declared.Packed.{Packed}
-use Rattle.timing.specs.declared.Packed.TheVariants.{Raw, Refused}
 use Rattle.timing.specs.declared.TimingRefusal.TheVariants.{FieldWide}
+use Rattle.timing.specs.declared.TimingRefusal.{TimingRefusal}
 
 -- The word of a timing: each number in its field.
 abbrev pub timingr_word : I2cTiming → ℕ
@@ -25,11 +24,11 @@ abbrev pub raw_of : I2cTiming → RawTimingr
 raw_of t = record { 0 = timingr_word t }
 
 -- Refused where a field of four bits does not hold its number; SCLH and SCLL hold every byte.
-unfoldable pub pack_of : I2cTiming → Packed
+unfoldable pub pack_of : I2cTiming → Result RawTimingr TimingRefusal
 pack_of t =
     cond (leb t.presc 15 && (leb t.scldel 15 && leb t.sdadel 15))
-    (Raw (raw_of t))
-    (Refused FieldWide)
+    (Ok (raw_of t))
+    (Err FieldWide)
 
 -- Bits 24 to 27 belong to no field: unpacking leaves them out.
 abbrev pub reserved : Place

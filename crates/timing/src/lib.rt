@@ -2,17 +2,19 @@
 // `bands` works timings out. Every timing and word has an answer, which is a numbered refusal of document 01 where none is right.
 #![tactic(auto)]
 
-ghost use Rattle.std.specs.Prelude.{◌≡◌};
-ghost use Rattle.timing.specs.Refusals.{timing_refusal_number};
+ghost use Rattle.std.specs.Prelude.{◌≡◌, Some};
+ghost use Rattle.timing.specs.Refusals.{timing_refusal_number, timing_refusal_name};
 ghost use Rattle.timing.specs.Timingr.{raw_of, pack_of, unpack_of};
 
 use registers::Timingr;
+use std::error::Error;
+use std::fmt;
 
 // A TIMINGR word, kept apart from plain numbers.
-#[derive(Clone, Copy)]
+#[derive(Clone, Copy, Debug, PartialEq, Eq)]
 pub struct RawTimingr(pub u32);
 
-#[derive(Clone, Copy)]
+#[derive(Clone, Copy, Debug, PartialEq, Eq)]
 pub struct I2cTiming {
     pub presc: u8,
     pub scldel: u8,
@@ -21,48 +23,47 @@ pub struct I2cTiming {
     pub scll: u8,
 }
 
-#[derive(Clone, Copy)]
+#[derive(Clone, Copy, Debug, PartialEq, Eq)]
 pub enum TimingRefusal {
-    NoSpeed,
-    ClockOver,
-    Ratio,
-    ClockSlow,
-    SpeedLow,
-    NoSetup,
-    FieldWide,
-    BadBands,
-    NoBand,
+    NoSpeed = 1,
+    ClockOver = 2,
+    Ratio = 3,
+    ClockSlow = 4,
+    SpeedLow = 5,
+    NoSetup = 6,
+    FieldWide = 7,
+    BadBands = 16,
+    NoBand = 17,
 }
 
 impl TimingRefusal {
+    // By hand: docs/PROMISES.md names this, and `pack` and `unpack`.
     pub fn number(self) -> u32
         ensures { result ≡ timing_refusal_number self }
     {
-        match self {
-            TimingRefusal::NoSpeed => 1,
-            TimingRefusal::ClockOver => 2,
-            TimingRefusal::Ratio => 3,
-            TimingRefusal::ClockSlow => 4,
-            TimingRefusal::SpeedLow => 5,
-            TimingRefusal::NoSetup => 6,
-            TimingRefusal::FieldWide => 7,
-            TimingRefusal::BadBands => 16,
-            TimingRefusal::NoBand => 17,
-        }
+        self as u32
     }
 }
 
-#[derive(Clone, Copy)]
-pub enum Packed {
-    Raw(RawTimingr),
-    Refused(TimingRefusal),
+impl fmt::Display for TimingRefusal {
+    ghost output = { λ r. Some (timing_refusal_name r) };
+
+    fn fmt<W: fmt::Write>(&self, f: &mut fmt::Formatter<W>) -> fmt::Result {
+        f.write_str(match self {
+            TimingRefusal::NoSpeed => "no speed",
+            TimingRefusal::ClockOver => "clock over",
+            TimingRefusal::Ratio => "ratio",
+            TimingRefusal::ClockSlow => "clock slow",
+            TimingRefusal::SpeedLow => "speed low",
+            TimingRefusal::NoSetup => "no setup",
+            TimingRefusal::FieldWide => "field wide",
+            TimingRefusal::BadBands => "bad bands",
+            TimingRefusal::NoBand => "no band",
+        })
+    }
 }
 
-#[derive(Clone, Copy)]
-pub enum Timed {
-    Timing(I2cTiming),
-    Refused(TimingRefusal),
-}
+impl Error for TimingRefusal {}
 
 impl I2cTiming {
     // The word of the fields' low bits.
@@ -78,23 +79,19 @@ impl I2cTiming {
         RawTimingr(w.0)
     }
 
-    pub fn pack(self) -> Packed
+    #[tactic(auto, unfolding(crate::specs::Timingr::pack_of))]
+    pub fn pack(self) -> Result<RawTimingr, TimingRefusal>
         ensures { result ≡ pack_of self }
     {
-        if self.presc > 15 {
-            return Packed::Refused(TimingRefusal::FieldWide);
+        if self.presc > 15 || self.scldel > 15 || self.sdadel > 15 {
+            return Err(TimingRefusal::FieldWide);
         }
-        if self.scldel > 15 {
-            return Packed::Refused(TimingRefusal::FieldWide);
-        }
-        if self.sdadel > 15 {
-            return Packed::Refused(TimingRefusal::FieldWide);
-        }
-        Packed::Raw(self.word())
+        Ok(self.word())
     }
 }
 
 impl RawTimingr {
+    #[tactic(auto, unfolding(crate::specs::Timingr::unpack_of))]
     pub fn unpack(self) -> I2cTiming
         ensures { result ≡ unpack_of self }
     {
@@ -110,14 +107,14 @@ impl RawTimingr {
 }
 
 // How SCLL and SCLH share a cycle: equally, or with the low part twice the high one.
-#[derive(Clone, Copy)]
+#[derive(Clone, Copy, Debug, PartialEq, Eq)]
 pub enum Shape {
     Equal,
     Double,
 }
 
 // A row of a table of speed bands: the highest frequency, the least clock, d, the divisors of the two delays.
-#[derive(Clone, Copy)]
+#[derive(Clone, Copy, Debug, PartialEq, Eq)]
 pub struct Band {
     pub upper: u32,
     pub least: u32,

@@ -83,18 +83,22 @@ module _ (t : List ℕ) (L : Laid) (i : ℕ) (M : Laid) (done : emit_of (drop i 
   unfolding emit_of
   next_put h b N e f = rw (f, e, add-one) (rw (drop-cons t i 0 h) at done)
 
--- ---- a byte b repeated, n times still to come
-module _ (b n : ℕ) (L : Laid) (k : ℕ) (M : Laid) (done : emit_of (replicate n b) M ≡ emit_of (replicate k b) L) where
-  pub all_repeated : n ≤ 0 → M ≡ emit_of (replicate k b) L
-  unfolding emit_of
-  all_repeated h = (let e : n ≡ 0 = omega arith in rw e at done)
+pub ruleset all = (all_put, next_put)
 
-  pub rest_left_out : (r : Bool) → r ≡ full M → r ≡ true → M ≡ emit_of (replicate k b) L
-  rest_left_out r e h = sym (full_emit (replicate n b) M (sym e ∙ h)) ∙ done
-
-  pub once_more : 0 < n → (N : Laid) → N ≡ put_byte b M → emit_of (replicate (n - 1) b) N ≡ emit_of (replicate k b) L
+-- ---- a byte b repeated n times, of which i are put
+module _ (b n i : ℕ) (L M : Laid) (done : emit_of (replicate (n - i) b) M ≡ emit_of (replicate n b) L) where
+  pub all_repeated : n ≤ i → M ≡ emit_of (replicate n b) L
   unfolding emit_of
-  once_more h N f = rw f (let e : n ≡ suc (n - 1) = omega arith in rw e at done)
+  all_repeated h = (let e : n - i ≡ 0 = omega arith in rw e at done)
+
+  pub rest_left_out : (r : Bool) → r ≡ full M → r ≡ true → M ≡ emit_of (replicate n b) L
+  rest_left_out r e h = sym (full_emit (replicate (n - i) b) M (sym e ∙ h)) ∙ done
+
+  pub once_more : i < n → (N : Laid) → N ≡ put_byte b M → emit_of (replicate (n - (i + 1)) b) N ≡ emit_of (replicate n b) L
+  unfolding emit_of
+  once_more h N f = rw f (let e : n - i ≡ suc (n - (i + 1)) = omega arith in rw e at done)
+
+pub ruleset repeated = (all_repeated, rest_left_out, once_more)
 
 -- ---- what the window shows in the end
 shows : (t : List ℕ) (at : ℕ) (bytes : List ℕ) (n : ℕ) → at + n ≡ length bytes →

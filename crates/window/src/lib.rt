@@ -6,6 +6,7 @@ ghost use Rattle.std.specs.Prelude.{◌≡◌, replicate};
 ghost use Rattle.window.specs.Window.{laid, start_of, full, put_byte, emit_of};
 
 // Where the text stands: how many of its bytes are still to be left out, and how many were written.
+// By hand: the slice stands beside it. In a struct of both, every contract would have to say too that the slice is still the same one.
 #[derive(Clone, Copy)]
 pub struct Cursor {
     pub skip: usize,
@@ -19,52 +20,54 @@ impl Cursor {
     {
         Cursor { skip: from, at: 0 }
     }
+
+    fn is_full(self, out: &[u8]) -> bool
+        ensures { result ≡ full (laid self out.now) }
+    {
+        self.skip == 0 && out.len() <= self.at
+    }
 }
 
 // One byte of the text.
+#[tactic(auto, using(crate::proofs::Laid::byte))]
 pub fn put(p: Cursor, b: u8, out: &mut [u8]) -> Cursor
     ensures { laid result out.new ≡ put_byte b (laid p out.old) }
 {
-    let skip = p.skip;
-    let at = p.at;
-    if 0 < skip {
-        return Cursor { skip: skip - 1, at };
+    if 0 < p.skip {
+        return Cursor {
+            skip: p.skip - 1,
+            ..p
+        };
     }
-    if at < out.len() {
-        out[at] = b;
-        return Cursor { skip, at: at + 1 };
+    if p.at < out.len() {
+        out[p.at] = b;
+        return Cursor { at: p.at + 1, ..p };
     }
     p
 }
 
+#[tactic(auto, using(crate::proofs::Laid::all))]
 pub fn put_all(p: Cursor, text: &[u8], out: &mut [u8]) -> Cursor
     ensures { laid result out.new ≡ emit_of text.now (laid p out.old) }
 {
     let mut q = p;
-    for i in 0..text.len() {
-        q = put(q, text[i], out);
+    for &b in text {
+        q = put(q, b, out);
     }
     q
 }
 
-fn is_full(p: Cursor, out: &[u8]) -> bool
-    ensures { result ≡ full (laid p out.now) }
-{
-    (p.skip == 0) & (out.len() <= p.at)
-}
-
 // A byte so many times; those that a full window has no room for cost nothing.
+#[tactic(auto, using(crate::proofs::Laid::repeated))]
 pub fn put_repeated(p: Cursor, b: u8, n: usize, out: &mut [u8]) -> Cursor
     ensures { laid result out.new ≡ emit_of (replicate n b) (laid p out.old) }
 {
     let mut q = p;
-    let mut left = n;
-    while 0 < left {
-        if is_full(q, out) {
-            return q;
+    for _ in 0..n {
+        if q.is_full(out) {
+            break;
         }
         q = put(q, b, out);
-        left -= 1;
     }
     q
 }

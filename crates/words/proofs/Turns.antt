@@ -1,12 +1,13 @@
 -- Words read from bytes and put into bytes, one after the other. Assumes nothing.
-use Prim.Native.Nat.{ℕ, zero, suc, ◌+◌, ◌-◌, ◌*◌, ◌/◌, ◌≤◌, ◌<◌}
+use Prim.Native.Nat.{ℕ, zero, suc, ◌+◌, ◌-◌, ◌*◌, ◌/◌, ◌≤◌, ◌<◌, min}
+use Rattle.std.proofs.lemmas.List.{take_min}
 use native.Mathlib.Nat.{add_assoc}
 use native.Mathlib.Numerals.{add-one}
 use native.Mathlib.Omega.{arith}
 use mathlib.Core.Path.{◌≡◌, refl, sym, ap, ◌∙◌}
 use mathlib.Core.List.{List, [], ◌∷◌, ◌++◌, append_assoc, append-nil}
-use lib.ListN.{length, get_or, take, drop, set, length-append, length-drop, drop_of_length-le, get_or-eq_default}
-use lib.Seq.{take-nil, take_all, take-suc, take_at, take-append_seam, set_split, drop-cons, drop_at, drop-append-add, drop-drop, get_or-drop, sets, sets-eq, length-take-le}
+use lib.ListN.{length, get_or, take, drop, set, length-append, length-take, length-drop, drop_of_length-le, get_or-eq_default}
+use lib.Seq.{take-nil, take_all, take-suc, take_at, take-append_seam, set_split, drop_at, drop-append-add, drop-drop, get_or-drop, sets, sets-eq, length-take-le}
 use borrow.Author.Tests.{le-leb, lt-leb}
 use Rattle.words.specs.Words.{word_of, words_from, words_in, word_at, Decoded, as_decoded, decoded_of, bytes_in, bytes_of, put_words, put_words_at}
 
@@ -42,62 +43,31 @@ unfolding words_in
 in_words b = length_words (length b / 4) b
 
 -- ---- decoding
-no_words : (file : List ℕ) → length file < 4 → words_in file ≡ []
-unfolding words_in
-no_words file h = (let e : length file / 4 ≡ 0 = omega arith in rw e)
-
-next_word : (file : List ℕ) → 4 ≤ length file →
-    words_in file ≡ word_of (get_or file 0 0) (get_or file 1 0) (get_or file 2 0) (get_or file 3 0) ∷ words_in (drop 4 file)
-unfolding words_in
-next_word file h = (let e : length file / 4 ≡ suc ((length file - 4) / 4) = omega arith in rw (e, length-drop))
-
 pub rest : (s : List ℕ) (n : ℕ) → take (length s - n) (drop n s) ≡ drop n s
 rest s n = take_all (length s - n) (drop n s) (simp length-drop (omega arith))
 
--- n words of ws are put at the front of what was `words`, and those in `bytes` are still to come
-pub record Reading (ws words : List ℕ) (n : ℕ) (now bytes : List ℕ) : Type 0 where
-  pub few : n ≤ length ws
-  pub room : n ≤ length words
-  pub there : now ≡ take n ws ++ drop n words
-  pub left : drop n ws ≡ words_in bytes
+-- one word more stands at the front of what was `old`
+pub next_decoded : (ws old now : List ℕ) (i w : ℕ) → now ≡ take i ws ++ drop i old → i < length ws → i < length now → w ≡ get_or ws i 0
+    → set now i w ≡ take (i + 1) ws ++ drop (i + 1) old
+next_decoded ws old now i w done some lt e =
+    let front = length-take-le i ws (omega arith) in
+    let behind : drop (suc i) now ≡ drop (suc i) old =
+    rw (← add-one i, ← drop-drop 1 i now, done, drop_at (take i ws) (drop i old) i front) (drop-drop 1 i old) in
+    rw (add-one, take-suc ws i 0 some, ← e)
+    (set_split now i w lt ∙ rw (behind, done, take_at (take i ws) (drop i old) i front) (sym (append_assoc (take i ws) (w ∷ []) (drop (suc i) old))))
 
-module _ (file words bytes now : List ℕ) (n : ℕ) (done : Reading (words_in file) words n now bytes) where
-  abbrev ws : List ℕ
-  ws = words_in file
-
-  so_far : take (length words) ws ≡ take n ws → as_decoded n now ≡ decoded_of 0 file words
-  unfolding decoded_of
-  so_far e = rw (e, length-take-le n ws done.few, done.there)
-
-  pub all_decoded : length bytes < 4 → as_decoded n now ≡ decoded_of 0 file words
-  all_decoded h =
-      let z : length ws ≤ n = omega (arith, length-drop n ws, ap length (done.left ∙ no_words bytes h), done.few) in
-      so_far (take_all (length words) ws (omega (arith, done.room)) ∙ sym (take_all n ws z))
-
-  pub no_room_left : length now ≤ n → length now ≡ length words → as_decoded n now ≡ decoded_of 0 file words
-  no_room_left h z = so_far (let e : length words ≡ n = omega (arith, done.room) in rw e)
-
-  pub next_decoded : (w : ℕ) → 4 ≤ length bytes → n < length now → length now ≡ length words →
-      w ≡ word_of (get_or bytes 0 0) (get_or bytes 1 0) (get_or bytes 2 0) (get_or bytes 3 0) →
-      Reading ws words (n + 1) (set now n w) (take (length bytes - 4) (drop 4 bytes))
-  next_decoded w h lt z e =
-      let next = done.left ∙ next_word bytes h in
-      let some : n < length ws = omega (arith, ap length next, length-drop n ws) in
-      let both : get_or ws n 0 ∷ drop (suc n) ws ≡ w ∷ words_in (drop 4 bytes) = sym (drop-cons ws n 0 some) ∙ next ∙ rw e in
-      let it : get_or ws n 0 ≡ w = cc in
-      let then : drop (suc n) ws ≡ words_in (drop 4 bytes) = cc in
-      let front = length-take-le n ws done.few in
-      let behind : drop (suc n) now ≡ drop (suc n) words =
-      rw (← add-one n, ← drop-drop 1 n now, done.there, drop_at (take n ws) (drop n words) n front) (drop-drop 1 n words) in
-      record {
-        few = omega (arith, some);
-        room = omega arith;
-        there = rw (add-one, take-suc ws n 0 some, it)
-            (set_split now n w lt ∙ rw (behind, done.there, take_at (take n ws) (drop n words) n front) (sym (append_assoc (take n ws) (w ∷ []) (drop (suc n) words))));
-        left = rw (add-one, rest bytes 4) then;
-      }
-
-pub ruleset decodes = (all_decoded, no_room_left, next_decoded)
+-- and all that there is room for
+pub all_decoded : (file words now : List ℕ) (n i : ℕ) → n ≡ min (length words) (length file / 4) → n ≤ i → i ≤ n
+    → now ≡ take i (words_in file) ++ drop i (take n words) → as_decoded n (now ++ drop n words) ≡ decoded_of 0 file words
+unfolding decoded_of
+all_decoded file words now n i e h k done =
+    let ws : List ℕ = words_in file in
+    let m : n ≡ min (length words) (length ws) = rw in_words e in
+    let all : take n ws ≡ take (length words) ws = rw m (take_min (length words) ws) in
+    let count : length (take (length words) ws) ≡ n = length-take (length words) ws ∙ sym m in
+    let none : drop i (take n words) ≡ [] = drop_of_length-le (take n words) {i = i} (rw length-take (omega arith)) in
+    let same : i ≡ n = omega arith in
+    rw (count, done, none, append-nil, same, all)
 
 -- what stands in the slice then
 module _ (i : ℕ) (bytes words : List ℕ) (n : ℕ) (words' : List ℕ) (E : as_decoded n words' ≡ decoded_of i bytes words) where
@@ -142,13 +112,6 @@ module _ (b : List ℕ) (i : ℕ) (words : List ℕ) where
 pub ruleset froms = (none_from, some_from, rest)
 
 -- ---- encoding
-pub four_set : (b : List ℕ) (at x y z w : ℕ) →
-    set (set (set (set b at x) (at + 1) y) (at + 2) z) (at + 3) w ≡ sets b at (x ∷ y ∷ z ∷ w ∷ [])
-four_set b at x y z w =
-    let e : at + 2 ≡ suc (suc at) = omega arith in
-    let f : at + 3 ≡ suc (suc (suc at)) = omega arith in
-    rw (add-one at, e, f)
-
 -- the first i words are put
 pub length_bytes : (ws : List ℕ) → length (bytes_of ws) ≡ 4 * length ws
 length_bytes [] = refl

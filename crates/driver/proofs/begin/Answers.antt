@@ -1,10 +1,10 @@
--- `begin` meets its contract: what is accepted fits. Assumes nothing.
-use native.Mathlib.Omega.{arith}
-use mathlib.Core.Path.{sym, ◌∙◌}
-use lib.ListN.{length}
-use Rattle.calls.proofs.Fit.{accepted_fit}
+-- What is accepted begins with a piece if it has one. Assumes nothing.
+use Rattle.calls.specs.Steps.{begin_of}
+use Rattle.calls.specs.Run.{begun_of}
 use Rattle.driver.proofs.begin.Goals as goal
 
-pub overflow_cast-n : goal.overflow_cast-n
-overflow_cast-n c =
-    omega (arith, (accepted_fit _ c.args.d c.args.ops.now (length c.args.buffer.now) (sym c.check-verdict.ensures ∙ c.in-Accepted.is)).size)
+pub returns-in-Ok : goal.returns-in-Ok
+unfolding begun_of begin_of
+returns-in-Ok c =
+    let e = c.in-Ok.ensures in
+    rw (e.0, c.begin_at.ensures, c.has_pieces.ensures, e.1, e.2)

@@ -1,13 +1,11 @@
 -- The entries that are left, put where the text stands, are the whole.
-use Prim.Native.Nat.{◌<◌}
-use mathlib.Core.Path.{◌≡◌}
-use lib.ListN.{length}
+use Rattle.std.proofs.Common.{◌≡◌, ◌<◌, ◌*◌, drop}
 use Rattle.window.specs.Window.{laid, emit_of}
 use Rattle.page.specs.Page.{entries_text}
 use Rattle.page.proofs.put_entries.Given as goal
 
-abbrev pub invariant-loop-rest : goal.invariant-loop-rest
-invariant-loop-rest l = (length l.out ≡ length l.initial.out) × (l.n < 1000000) × (emit_of (entries_text l.n l.rest) (laid l.q l.out) ≡ emit_of (entries_text l.first l.log) (laid l.initial.q l.initial.out))
-
-abbrev pub decreases-loop-rest : goal.decreases-loop-rest
-decreases-loop-rest l = length l.rest
+abbrev pub invariant-loop-entry : goal.invariant-loop-entry
+invariant-loop-entry l = record {
+  six_digits : l.n < 1000000;
+  rest : emit_of (entries_text l.n (drop (2 * l.entry-index) l.log)) (laid l.q l.out) ≡ emit_of (entries_text l.first l.log) (laid l.initial.q l.initial.out);
+}
