@@ -85,6 +85,7 @@ fn show_call(
 }
 
 // The call's line stands before its accesses. So the call is driven twice, first for what its line says, with a text that goes nowhere.
+// By hand: place, form and window go side by side, as in `window::Cursor`; that of one byte is fixed memory.
 pub fn put_call(
     p: Cursor,
     form: Form,

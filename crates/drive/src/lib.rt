@@ -33,7 +33,8 @@ pub struct Driven {
 }
 
 // One advance more, over 512 places, and the text of its accesses, which are numbered on.
-// By hand: `advance_bytes` sums two advances like this too, and the pieces differ in all else.
+// By hand: `advance_bytes` sums two advances like this too, and the pieces differ in all else. Form, buffer and window go side by side here
+// and below, as in `window::Cursor`.
 fn piece(t: Driven, form: Form, job: Job, buffer: &mut [u8], out: &mut [u8]) -> Driven
     requires { (t.advanced.used ≤ length job.answers.now) × (t.advanced.written ≤ 131072) }
     ensures { as_driven result buffer.new out.new ≡ go_on (in_lines form) job.entry.description job.entry.operations.now job.entry.answers.now 512 (as_driven t buffer.old out.old) }

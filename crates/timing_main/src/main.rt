@@ -93,6 +93,7 @@ fn usage(rt: &HostRuntime) {
 }
 
 // The numbers of two arguments. Others are said on standard error.
+// By hand: two arguments go side by side here and below, as they came.
 fn two_numbers(rt: &HostRuntime, first: &[u8], second: &[u8]) -> Option<(u32, u32)> {
     let numbers = parse_two(first, second);
     if numbers.is_none() {

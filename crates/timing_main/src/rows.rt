@@ -47,6 +47,7 @@ fn number(word: &[u8], column: &'static str) -> Result<u32, Fault> {
 }
 
 // The number that stands for a shape in a table.
+// By hand: a word of the text, and a word of the table, by which `bands` reads it.
 fn shape(word: &[u8]) -> Result<u32, Fault> {
     match word {
         b"equal" => Ok(0),
