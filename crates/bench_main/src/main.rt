@@ -2,6 +2,7 @@
 // the accesses of each call stand as a service page.
 #![tactic(auto)]
 
+use input::Work;
 use lines::Form;
 use std::io::Print;
 use std::rt::HostRuntime;
@@ -31,6 +32,16 @@ fn print(rt: &HostRuntime, file: &[u8], form: Form) {
     }
 }
 
+// The text of a file, in a form, is printed.
+#[derive(Drop)]
+struct Text(Form);
+
+impl Work for Text {
+    fn on(&self, rt: &HostRuntime, _name: &[u8], file: &[u8]) {
+        print(rt, file, self.0);
+    }
+}
+
 fn main(rt: HostRuntime) {
     let option = input::arg(&rt, 1).unwrap_or_default();
     let (form, first) = if option.as_slice() == b"--page".as_slice() {
@@ -38,5 +49,6 @@ fn main(rt: HostRuntime) {
     } else {
         (Form::Lines, 1)
     };
-    input::each::<FILE, _>(&rt, first, |_, file| print(&rt, file, form));
+    let mut room = [0u8; FILE];
+    input::each(&rt, first, &mut room, &Text(form));
 }

@@ -8,6 +8,7 @@ mod names;
 mod text;
 
 use back::to_text;
+use input::Work;
 use std::rt::HostRuntime;
 use text::{TEXT, to_words};
 
@@ -23,22 +24,36 @@ fn is_back(argument: &[u8]) -> bool {
     argument == b"--back".as_slice()
 }
 
-// By hand: fixed memory here and in `turn_file`; the two differ in what is read, and `input` has a function for each.
-fn turn_input<F: FnOnce(&HostRuntime, &[u8], &[u8])>(rt: &HostRuntime, turn: F)
-    requires { F.IsAlwaysCallable turn }
-{
-    let mut room = [0u8; ROOM];
-    if let Some(input) = input::read_stdin(rt, &mut room) {
-        turn(rt, b"standard input", input);
+// A text is turned into words.
+struct ToWords;
+
+impl Work for ToWords {
+    fn on(&self, rt: &HostRuntime, name: &[u8], text: &[u8]) {
+        to_words(rt, name, text);
     }
 }
 
-fn turn_file<F: FnOnce(&HostRuntime, &[u8], &[u8])>(rt: &HostRuntime, path: &[u8], turn: F)
-    requires { F.IsAlwaysCallable turn }
-{
+// A bench file is turned into text.
+struct ToText;
+
+impl Work for ToText {
+    fn on(&self, rt: &HostRuntime, name: &[u8], file: &[u8]) {
+        to_text(rt, name, file);
+    }
+}
+
+// By hand: fixed memory here and in `turn_file`; the two differ in what is read, and `input` has a function for each.
+fn turn_input<W: Work>(rt: &HostRuntime, way: &W) {
+    let mut room = [0u8; ROOM];
+    if let Some(input) = input::read_stdin(rt, &mut room) {
+        way.on(rt, b"standard input", input);
+    }
+}
+
+fn turn_file<W: Work>(rt: &HostRuntime, path: &[u8], way: &W) {
     let mut room = [0u8; ROOM];
     if let Some(input) = input::read_file(rt, path, &mut room) {
-        turn(rt, path, input);
+        way.on(rt, path, input);
     }
 }
 
@@ -48,10 +63,10 @@ fn main(rt: HostRuntime) {
     let second = input::arg(&rt, 2).unwrap_or_default();
     let first = first.as_slice();
     match input::arg_count(&rt) {
-        1 => turn_input(&rt, to_words),
-        2 if is_back(first) => turn_input(&rt, to_text),
-        2 if !first.starts_with(b"--") => turn_file(&rt, first, to_words),
-        3 if is_back(first) => turn_file(&rt, second.as_slice(), to_text),
+        1 => turn_input(&rt, &ToWords),
+        2 if is_back(first) => turn_input(&rt, &ToText),
+        2 if !first.starts_with(b"--") => turn_file(&rt, first, &ToWords),
+        3 if is_back(first) => turn_file(&rt, second.as_slice(), &ToText),
         _ => usage(&rt),
     }
 }

@@ -16,24 +16,6 @@ fn refuse(rt: &HostRuntime, line: usize, word: &[u8]) {
     complain(rt, b"\n");
 }
 
-// Hands the words of the text to `take` until it says that none may follow, and says whether all were taken.
-fn take_all<F: FnMut(u32) -> bool>(rt: &HostRuntime, text: &[u8], mut take: F) -> bool
-    requires { F.IsAlwaysCallable take }
-{
-    for (number, line) in (1usize..).zip(Lines(text)) {
-        for word in Words(line) {
-            let Some(n) = numerals::parse(word) else {
-                refuse(rt, number, word);
-                return false;
-            };
-            if !take(n) {
-                return false;
-            }
-        }
-    }
-    true
-}
-
 // Writes a word as its four bytes, the lowest first, and says whether it could.
 fn write(rt: &HostRuntime, n: u32) -> bool {
     let written = rt.write_all(&n.to_le_bytes());
@@ -44,11 +26,27 @@ fn write(rt: &HostRuntime, n: u32) -> bool {
     true
 }
 
+// Looks at the words of the text, and writes them if that is asked for, until one is wrong or cannot be written. Says whether none was.
+fn take_all(rt: &HostRuntime, text: &[u8], writes: bool) -> bool {
+    for (number, line) in (1usize..).zip(Lines(text)) {
+        for word in Words(line) {
+            let Some(n) = numerals::parse(word) else {
+                refuse(rt, number, word);
+                return false;
+            };
+            if writes && !write(rt, n) {
+                return false;
+            }
+        }
+    }
+    true
+}
+
 // Writes the words of a text. A text with anything wrong in it is found out before the first is written.
 pub fn to_words(rt: &HostRuntime, name: &[u8], text: &[u8]) {
     if text.len() > TEXT {
         say(rt, name, "longer than 1 MiB");
-    } else if take_all(rt, text, |_| true) {
-        take_all(rt, text, |n| write(rt, n));
+    } else if take_all(rt, text, false) {
+        take_all(rt, text, true);
     }
 }

@@ -1,4 +1,7 @@
 // What a program asks of the system: its arguments, a file by its name, and standard error.
+ghost use Rattle.std.specs.Counts.{IsPrefixLen};
+ghost use Rattle.std.specs.Prelude.{IfSome};
+
 use arrayvec::{ArrayString, ArrayVec};
 use std::env::{Env, FillError};
 use std::fmt::Write;
@@ -20,13 +23,18 @@ pub fn arg_count(rt: &HostRuntime) -> usize {
         .unwrap_or(usize::MAX)
 }
 
+// Puts an argument at the start of `buf` and says its length: none where it is missing or longer than `buf`.
+pub fn arg_into(rt: &HostRuntime, i: usize, buf: &mut [u8]) -> Option<usize>
+    ensures { IfSome result (λ n. IsPrefixLen n buf.new) }
+{
+    rt.arg(i, buf).ok()
+}
+
 // An argument, none where it is missing or longer than a path may be.
 pub fn arg(rt: &HostRuntime, i: usize) -> Option<Argument> {
     let mut bytes = [0u8; BUFFER];
-    let n = rt.arg(i, &mut bytes).ok()?;
-    let mut argument = ArrayVec::from(bytes);
-    argument.truncate(n);
-    Some(argument)
+    let n = arg_into(rt, i, &mut bytes)?;
+    Argument::try_from(&bytes[..n]).ok()
 }
 
 // Opens a file for reading. A name that is not UTF-8 is the name of none.

@@ -2,7 +2,7 @@
 // input. What is wrong with a log is said on standard error, and it has no page then.
 #![tactic(auto)]
 
-use input::{complain, say};
+use input::{Work, complain, say};
 use page::Fault;
 use std::io::{Eprint, Print};
 use std::rt::HostRuntime;
@@ -55,6 +55,16 @@ fn print_log(rt: &HostRuntime, name: &[u8], log: &[u8]) {
     }
 }
 
+// The pages of a log are printed.
+struct Pages;
+
+impl Work for Pages {
+    fn on(&self, rt: &HostRuntime, name: &[u8], log: &[u8]) {
+        print_log(rt, name, log);
+    }
+}
+
 fn main(rt: HostRuntime) {
-    input::each::<ROOM, _>(&rt, 1, |name, log| print_log(&rt, name, log));
+    let mut room = [0u8; ROOM];
+    input::each(&rt, 1, &mut room, &Pages);
 }

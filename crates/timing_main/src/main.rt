@@ -7,8 +7,10 @@ mod file;
 mod rows;
 mod show;
 
+ghost use Rattle.std.specs.Prelude.{◌≤◌, length};
+
 use arrayvec::ArrayVec;
-use input::{BUFFER, Words, complain};
+use input::{Argument, BUFFER, Words, complain};
 use std::io;
 use std::io::Read;
 use std::rt::HostRuntime;
@@ -55,7 +57,9 @@ fn answer_line(rt: &HostRuntime, line: &[u8]) -> io::Result<()> {
 }
 
 // Puts input that has come at the start of `buf`: none at its end.
-fn read_input<'a>(rt: &HostRuntime, buf: &'a mut [u8]) -> &'a [u8] {
+fn read_input<'a>(rt: &HostRuntime, buf: &'a mut [u8]) -> &'a [u8]
+    ensures { length result.now ≤ length buf.old }
+{
     match rt.stdin().read(buf) {
         Ok(n) => &buf[..n],
         Err(error) => {
@@ -110,47 +114,44 @@ fn is_bands(argument: &[u8]) -> bool {
     argument == b"--bands".as_slice()
 }
 
-fn answer_arguments(rt: &HostRuntime, first: &[u8], second: &[u8]) -> io::Result<()> {
-    if is_bands(first) {
+// An argument that is missing or longer than a path may be counts as empty.
+fn argument(rt: &HostRuntime, i: usize) -> Argument {
+    input::arg(rt, i).unwrap_or_default()
+}
+
+fn answer_arguments(rt: &HostRuntime) -> io::Result<()> {
+    let first = argument(rt, 1);
+    let second = argument(rt, 2);
+    if is_bands(first.as_slice()) {
         usage(rt);
         return Ok(());
     }
-    match two_numbers(rt, first, second) {
+    match two_numbers(rt, first.as_slice(), second.as_slice()) {
         Some((clock, frequency)) => answer(rt, clock, frequency),
         None => Ok(()),
     }
 }
 
-fn answer_option(
-    rt: &HostRuntime,
-    option: &[u8],
-    path: &[u8],
-    first: &[u8],
-    second: &[u8],
-) -> io::Result<()> {
-    if !is_bands(option) {
+fn answer_option(rt: &HostRuntime) -> io::Result<()> {
+    let option = argument(rt, 1);
+    let path = argument(rt, 2);
+    let first = argument(rt, 3);
+    let second = argument(rt, 4);
+    if !is_bands(option.as_slice()) {
         usage(rt);
         return Ok(());
     }
-    match two_numbers(rt, first, second) {
-        Some((clock, frequency)) => file::answer(rt, path, clock, frequency),
+    match two_numbers(rt, first.as_slice(), second.as_slice()) {
+        Some((clock, frequency)) => file::answer(rt, path.as_slice(), clock, frequency),
         None => Ok(()),
     }
 }
 
-// An argument that is missing or longer than a path may be counts as empty.
 fn main(rt: HostRuntime) -> io::Result<()> {
-    let [one, two, three, four] = [1, 2, 3, 4].map(|i| input::arg(&rt, i).unwrap_or_default());
     match input::arg_count(&rt) {
         1 => answer_input(&rt),
-        3 => answer_arguments(&rt, one.as_slice(), two.as_slice()),
-        5 => answer_option(
-            &rt,
-            one.as_slice(),
-            two.as_slice(),
-            three.as_slice(),
-            four.as_slice(),
-        ),
+        3 => answer_arguments(&rt),
+        5 => answer_option(&rt),
         _ => {
             usage(&rt);
             Ok(())
