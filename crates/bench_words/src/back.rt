@@ -2,7 +2,6 @@
 use crate::names;
 use benchfile::{after, body_size, first, plain};
 use input::say;
-use std::io;
 use std::io::Print;
 use std::rt::HostRuntime;
 
@@ -27,69 +26,87 @@ fn contents(words: &[u32]) -> Option<(&[Row], &[u32])> {
     rest.is_empty().then_some((rows, bodies))
 }
 
+// Text and numbers go to standard output one by one: where something cannot be written the rest is tried, and nobody is told.
+fn show(rt: &HostRuntime, text: &str) {
+    let _ = rt.write_all(text.as_bytes());
+}
+
+fn show_decimal(rt: &HostRuntime, n: usize) {
+    let _ = rt.print(n);
+}
+
+fn show_hex(rt: &HostRuntime, word: u32) {
+    show(rt, "0x");
+    let _ = rt.write_all(&numerals::hex(word));
+}
+
 // Small words of a head are bytes, counts and lengths, which read best in decimal.
-fn show_word(rt: &HostRuntime, word: u32, hex: bool) -> io::Result<()> {
+fn show_word(rt: &HostRuntime, word: u32, hex: bool) {
     if hex || word >= 65_536 {
-        print!(rt; "0x{word:08X}")
+        show_hex(rt, word);
     } else {
-        print!(rt; "{word}")
+        show_decimal(rt, word as usize);
     }
 }
 
-fn show_words(rt: &HostRuntime, words: &[u32], hex: bool) -> io::Result<()> {
+fn show_words(rt: &HostRuntime, words: &[u32], hex: bool) {
     for line in words.chunks(ACROSS) {
         for (i, &word) in line.iter().enumerate() {
             if i > 0 {
-                print!(rt; " ")?;
+                show(rt, " ");
             }
-            show_word(rt, word, hex)?;
+            show_word(rt, word, hex);
         }
-        print!(rt; "\n")?;
+        show(rt, "\n");
     }
-    Ok(())
 }
 
 // `# 3: transaction`, counted from 1.
-fn show_name(rt: &HostRuntime, row: &Row, place: usize) -> io::Result<()> {
+fn show_name(rt: &HostRuntime, row: &Row, place: usize) {
     let number = row[0];
-    print!(rt; "# {place}: {}", names::name(number))?;
+    show(rt, "# ");
+    show_decimal(rt, place);
+    show(rt, ": ");
+    show(rt, names::name(number));
     if plain(number) != number {
-        print!(rt; ", ManualAck")?;
+        show(rt, ", ManualAck");
     }
-    print!(rt; "\n")
+    show(rt, "\n");
 }
 
-fn show_calls(rt: &HostRuntime, rows: &[Row], bodies: &[u32]) -> io::Result<()> {
-    println!(rt; "{} # calls: number, argument, heads, answers", rows.len())?;
+fn show_calls(rt: &HostRuntime, rows: &[Row], bodies: &[u32]) {
+    show_decimal(rt, rows.len());
+    show(rt, " # calls: number, argument, heads, answers\n");
     for (place, row) in (1usize..).zip(rows) {
-        let [number, argument, heads, answers] = *row;
-        print!(rt; "{number} {argument} {heads} {answers} ")?;
-        show_name(rt, row, place)?;
+        for &word in row {
+            show_decimal(rt, word as usize);
+            show(rt, " ");
+        }
+        show_name(rt, row, place);
     }
     let mut rest = bodies;
     for (place, row) in (1usize..).zip(rows) {
         let body = first(rest, body_size(row));
         let heads = row[2] as usize;
-        print!(rt; "\n")?;
-        show_name(rt, row, place)?;
-        show_words(rt, first(body, heads), false)?;
-        show_words(rt, after(body, heads), true)?;
+        show(rt, "\n");
+        show_name(rt, row, place);
+        show_words(rt, first(body, heads), false);
+        show_words(rt, after(body, heads), true);
         rest = after(rest, body_size(row));
     }
-    Ok(())
 }
 
-fn show_file(rt: &HostRuntime, words: &[u32]) -> io::Result<()> {
+fn show_file(rt: &HostRuntime, words: &[u32]) {
     match contents(words) {
         Some((rows, bodies)) => show_calls(rt, rows, bodies),
         None => {
-            print!(rt; "# the lengths disagree\n")?;
-            show_words(rt, words, true)
+            show(rt, "# the lengths disagree\n");
+            show_words(rt, words, true);
         }
     }
 }
 
-// Writes the text of a bench file. Where it cannot be written, nobody is told.
+// Writes the text of a bench file.
 pub fn to_text(rt: &HostRuntime, name: &[u8], file: &[u8]) {
     if file.len() > 4 * WORDS {
         say(rt, name, "longer than 65,536 bytes");
@@ -99,6 +116,6 @@ pub fn to_text(rt: &HostRuntime, name: &[u8], file: &[u8]) {
         // By hand: the programs have fixed memory, and the rows and bodies are parts of one slice of words.
         let mut words = [0u32; WORDS];
         let n = words::decode(file, &mut words);
-        let _ = show_file(rt, first(&words, n));
+        show_file(rt, first(&words, n));
     }
 }
