@@ -43,29 +43,39 @@ fn put_buffer(p: Cursor, n: u32, r: Report, buffer: &[u8], out: &mut [u8]) -> Cu
     p
 }
 
-// The call is driven, and the buffer that it leaves is shown.
-fn show(
-    p: Cursor,
-    form: Form,
-    n: u32,
-    job: Job,
-    buffer: &mut [u8],
-    out: &mut [u8],
-) -> (Told, Cursor)
-    ensures told { result.0 ≡ told_by (run_for job.entry.description job.entry.operations.now buffer.old job.entry.answers.now) }
-    ensures out_after { laid result.1 out.new ≡ emit_of (run_text form n (run_for job.entry.description job.entry.operations.now buffer.old job.entry.answers.now)) (laid p out.old) }
+// The call is driven for what its line says; its text goes nowhere.
+// By hand: a window of one byte is fixed memory.
+fn tell(job: Job, buffer: &mut [u8]) -> Told
+    ensures { result ≡ told_by (run_for job.entry.description job.entry.operations.now buffer.old job.entry.answers.now) }
 {
-    let t = drive::drive(p, form, job, buffer, out);
+    let mut nowhere = [0; 1];
+    let t = drive::drive(Cursor::new(0), Form::Lines, job, buffer, &mut nowhere);
     let far = t.advanced;
-    let told = Told {
+    Told {
         report: far.report,
         used: far.used,
         accesses: far.written,
-    };
-    (told, put_buffer(t.place, n, far.report, buffer, out))
+    }
 }
 
-// The same over the buffer that the file gives.
+// The call is driven again, now with its text, and the buffer that it leaves is shown.
+fn show(p: Cursor, form: Form, n: u32, job: Job, buffer: &mut [u8], out: &mut [u8]) -> Cursor
+    ensures { laid result out.new ≡ emit_of (run_text form n (run_for job.entry.description job.entry.operations.now buffer.old job.entry.answers.now)) (laid p out.old) }
+{
+    let t = drive::drive(p, form, job, buffer, out);
+    put_buffer(t.place, n, t.advanced.report, buffer, out)
+}
+
+// Each of the two goes over the buffer that the file gives.
+// By hand: fixed memory here and in `show_call`, as the longest buffer takes.
+fn tell_call(n: u32, a: u32, head: &[u32], job: Job) -> Told
+    ensures { result ≡ told_by (run_for job.entry.description job.entry.operations.now (lent_buffer n a head.now) job.entry.answers.now) }
+{
+    let mut room = [0; ROOM];
+    let size = benchfile::lay(n, a, head, &mut room);
+    tell(job, &mut room[..size])
+}
+
 fn show_call(
     p: Cursor,
     form: Form,
@@ -74,18 +84,17 @@ fn show_call(
     head: &[u32],
     job: Job,
     out: &mut [u8],
-) -> (Told, Cursor)
-    ensures told { result.0 ≡ told_by (run_for job.entry.description job.entry.operations.now (lent_buffer n a head.now) job.entry.answers.now) }
-    ensures out_after { laid result.1 out.new ≡ emit_of (run_text form n (run_for job.entry.description job.entry.operations.now (lent_buffer n a head.now) job.entry.answers.now)) (laid p out.old) }
+) -> Cursor
+    ensures { laid result out.new ≡ emit_of (run_text form n (run_for job.entry.description job.entry.operations.now (lent_buffer n a head.now) job.entry.answers.now)) (laid p out.old) }
 {
-    // By hand: fixed memory, as the longest buffer takes.
     let mut room = [0; ROOM];
     let size = benchfile::lay(n, a, head, &mut room);
     show(p, form, n, job, &mut room[..size], out)
 }
 
-// The call's line stands before its accesses. So the call is driven twice, first for what its line says, with a text that goes nowhere.
-// By hand: place, form and window go side by side, as in `window::Cursor`; that of one byte is fixed memory.
+// The call's line stands before its accesses. So the call is driven twice, first for what its line says: without its buffer's text, which
+// may be longer than all else and would be laid out for nothing.
+// By hand: place, form and window go side by side, as in `window::Cursor`.
 pub fn put_call(
     p: Cursor,
     form: Form,
@@ -103,16 +112,7 @@ pub fn put_call(
         operations: benchfile::operations(n, head),
         answers,
     };
-    let mut nowhere = [0; 1];
-    let (told, _) = show_call(
-        Cursor::new(0),
-        Form::Lines,
-        like,
-        a,
-        head,
-        job,
-        &mut nowhere,
-    );
+    let told = tell_call(like, a, head, job);
     let p = lines::put_call(p, n, told.report, told.used, told.accesses, out);
-    show_call(p, form, like, a, head, job, out).1
+    show_call(p, form, like, a, head, job, out)
 }

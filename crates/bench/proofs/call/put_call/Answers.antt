@@ -5,6 +5,6 @@ use Rattle.bench.proofs.call.put_call.Goals as goal
 
 pub returns : goal.returns
 returns c =
-    called c.args.form c.args.n c.args.a c.args.head.now c.args.answers.now c.plain-like.result c.describe.result c.operations.result.now c.show_call.result.0
-    (laid c.args.p c.args.out.now) (laid c.put_call-p.result c.put_call-p.new.out) (laid c.show_call-2.result.1 c.show_call-2.new.out)
-    c.plain-like.ensures c.describe.ensures c.operations.ensures c.show_call.ensures.told c.put_call-p.ensures c.show_call-2.ensures.out_after
+    called c.args.form c.args.n c.args.a c.args.head.now c.args.answers.now c.plain-like.result c.describe.result c.operations.result.now c.tell_call-told.result
+    (laid c.args.p c.args.out.now) (laid c.put_call-p.result c.put_call-p.new.out) (laid c.show_call.result c.show_call.new.out)
+    c.plain-like.ensures c.describe.ensures c.operations.ensures c.tell_call-told.ensures c.put_call-p.ensures c.show_call.ensures

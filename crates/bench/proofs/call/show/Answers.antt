@@ -1,16 +1,11 @@
--- What the line says is what the run gave; its accesses are shown, and then its buffer.
-use Rattle.bench.proofs.Texts.{told, shown}
+-- The accesses are shown, and then the buffer.
+use Rattle.bench.proofs.Texts.{shown}
 use Rattle.window.specs.Window.{laid}
 use Rattle.drive.specs.Drive.{run_for}
 use Rattle.bench.proofs.call.show.Goals as goal
 
-pub returns-clause-told : goal.returns-clause-told
-returns-clause-told c =
-    let job = c.args.job in
-    told c.args.form c.drive-t.result c.drive-t.new.buffer c.drive-t.new.out (run_for job.description job.operations.now c.args.buffer.now job.answers.now) _ c.drive-t.ensures
-
-pub returns-clause-out_after : goal.returns-clause-out_after
-returns-clause-out_after c =
+pub returns : goal.returns
+returns c =
     let job = c.args.job in
     shown c.args.form c.args.n c.drive-t.result c.drive-t.new.buffer c.drive-t.new.out (run_for job.description job.operations.now c.args.buffer.now job.answers.now)
     (laid c.args.p c.args.out.now) _ c.drive-t.ensures c.put_buffer.ensures

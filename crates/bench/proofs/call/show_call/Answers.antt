@@ -5,7 +5,7 @@ use Rattle.benchfile.specs.Calls.{whole_buffer}
 use Rattle.drive.specs.Drive.{run_for}
 use Rattle.window.proofs.Laid.{room, counted}
 use Rattle.window.specs.Window.{laid, emit_of}
-use Rattle.bench.specs.Text.{run_text, told_by}
+use Rattle.bench.specs.Text.{run_text}
 use Rattle.bench.proofs.Texts.{lent}
 use Rattle.bench.proofs.call.show_call.Goals as goal
 
@@ -15,16 +15,9 @@ slice_bounds-room-end c = room (whole_buffer c.args.n c.args.a c.args.head.now) 
 pub slice_bounds-show-end : goal.slice_bounds-show-end
 slice_bounds-show-end c = counted (whole_buffer c.args.n c.args.a c.args.head.now) (replicate 65536 0) c.lay-size.result c.lay-size.new.out c.lay-size.ensures
 
-pub returns-clause-told : goal.returns-clause-told
-returns-clause-told c =
+pub returns : goal.returns
+returns c =
     let job = c.args.job in
-    c.show.ensures.told
-    ∙ ap (λ (b : List ℕ). told_by (run_for job.description job.operations.now b job.answers.now))
-    (lent (whole_buffer c.args.n c.args.a c.args.head.now) (replicate 65536 0) c.lay-size.result c.lay-size.new.out c.lay-size.ensures (length-replicate {A = ℕ} 65536 0))
-
-pub returns-clause-out_after : goal.returns-clause-out_after
-returns-clause-out_after c =
-    let job = c.args.job in
-    c.show.ensures.out_after
+    c.show.ensures
     ∙ ap (λ (b : List ℕ). emit_of (run_text c.args.form c.args.n (run_for job.description job.operations.now b job.answers.now)) (laid c.args.p c.args.out.now))
     (lent (whole_buffer c.args.n c.args.a c.args.head.now) (replicate 65536 0) c.lay-size.result c.lay-size.new.out c.lay-size.ensures (length-replicate {A = ℕ} 65536 0))
