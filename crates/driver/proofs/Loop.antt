@@ -152,6 +152,20 @@ pub record Going (q : Request) (l : List ℕ) (p : ℕ) (F : Final) (b₀ log₀
   pub known : Known q s
   pub rest : to_come q l p b log s u w ≡ F
 
+-- one within the other
+pub after : {q : Request} {l : List ℕ} {p : ℕ} {F : Final} {b₀ log₀ b₁ log₁ b log : List ℕ} {s₁ s : SavedCall} {v₁ v : View} {u₁ w₁ u w : ℕ} →
+    Going q l p (to_come q l p b₁ log₁ s₁ u₁ w₁) b₁ log₁ b log s v u w → Going q l p F b₀ log₀ b₁ log₁ s₁ v₁ u₁ w₁ →
+    Going q l p F b₀ log₀ b log s v u w
+after g h =
+    record {
+      places = g.places;
+      buffer_kept = g.buffer_kept ∙ h.buffer_kept;
+      log_kept = g.log_kept ∙ h.log_kept;
+      view = g.view;
+      known = g.known;
+      rest = g.rest ∙ h.rest;
+    }
+
 -- where a quick one was passed on, nothing was touched
 pub untouched : {q : Request} {l : List ℕ} {p : ℕ} {F : Final} {b₀ log₀ b log b' log' : List ℕ} {s : SavedCall} {v : View} {u w : ℕ} →
     b' ≡ b → log' ≡ log → Going q l p F b₀ log₀ b log s v u w → Going q l p F b₀ log₀ b' log' s v u w
@@ -177,7 +191,7 @@ module _ {q : Request} {l : List ℕ} {p : ℕ} {F : Final} {b₀ log₀ b log :
 
   -- an access was made
   module _ (t : Turned) (b' log' : List ℕ) (E : left (Ok t) b' log' ≡ turn_of q.call q.words v s b l u log (2 * w)) where
-    again : w < p → to_come q l p b' log' t.saved t.used (w + 1) ≡ F
+    pub again : w < p → to_come q l p b' log' t.saved t.used (w + 1) ≡ F
     again h =
         let two : 2 * (w + 1) ≡ 2 * w + 2 = omega arith in
         rw two (sym (steps (Ok t) b' log' E h) ∙ g.rest)
