@@ -37,7 +37,7 @@ fn print(rt: &HostRuntime, file: &[u8], form: Form) {
 struct Text(Form);
 
 impl Work for Text {
-    fn on(&self, rt: &HostRuntime, _name: &[u8], file: &[u8]) {
+    fn on(&mut self, rt: &HostRuntime, _name: &[u8], file: &[u8]) {
         print(rt, file, self.0);
     }
 }
@@ -49,6 +49,7 @@ fn main(rt: HostRuntime) {
     } else {
         (Form::Lines, 1)
     };
+    // By hand: fixed memory, for one file after the other.
     let mut room = [0u8; FILE];
-    input::each(&rt, first, &mut room, &Text(form));
+    input::each(&rt, first, &mut room, &mut Text(form));
 }

@@ -25,32 +25,37 @@ fn is_back(argument: &[u8]) -> bool {
 }
 
 // A text is turned into words.
+#[derive(Drop)]
 struct ToWords;
 
 impl Work for ToWords {
-    fn on(&self, rt: &HostRuntime, name: &[u8], text: &[u8]) {
+    fn on(&mut self, rt: &HostRuntime, name: &[u8], text: &[u8]) {
         to_words(rt, name, text);
     }
 }
 
 // A bench file is turned into text.
+#[derive(Drop)]
 struct ToText;
 
 impl Work for ToText {
-    fn on(&self, rt: &HostRuntime, name: &[u8], file: &[u8]) {
+    fn on(&mut self, rt: &HostRuntime, name: &[u8], file: &[u8]) {
         to_text(rt, name, file);
     }
 }
 
-// By hand: fixed memory here and in `turn_file`; the two differ in what is read, and `input` has a function for each.
-fn turn_input<W: Work>(rt: &HostRuntime, way: &W) {
+// By hand: fixed memory here and in `turn_file`, kept out of `main`, where it would be taken for a wrong argument too; the two differ in
+// what is read, and `input` has a function for each.
+#[inline(never)]
+fn turn_input<W: Work>(rt: &HostRuntime, way: &mut W) {
     let mut room = [0u8; ROOM];
     if let Some(input) = input::read_stdin(rt, &mut room) {
         way.on(rt, b"standard input", input);
     }
 }
 
-fn turn_file<W: Work>(rt: &HostRuntime, path: &[u8], way: &W) {
+#[inline(never)]
+fn turn_file<W: Work>(rt: &HostRuntime, path: &[u8], way: &mut W) {
     let mut room = [0u8; ROOM];
     if let Some(input) = input::read_file(rt, path, &mut room) {
         way.on(rt, path, input);
@@ -63,10 +68,10 @@ fn main(rt: HostRuntime) {
     let second = input::arg(&rt, 2).unwrap_or_default();
     let first = first.as_slice();
     match input::arg_count(&rt) {
-        1 => turn_input(&rt, &ToWords),
-        2 if is_back(first) => turn_input(&rt, &ToText),
-        2 if !first.starts_with(b"--") => turn_file(&rt, first, &ToWords),
-        3 if is_back(first) => turn_file(&rt, second.as_slice(), &ToText),
+        1 => turn_input(&rt, &mut ToWords),
+        2 if is_back(first) => turn_input(&rt, &mut ToText),
+        2 if !first.starts_with(b"--") => turn_file(&rt, first, &mut ToWords),
+        3 if is_back(first) => turn_file(&rt, second.as_slice(), &mut ToText),
         _ => usage(&rt),
     }
 }

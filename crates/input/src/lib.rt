@@ -66,13 +66,21 @@ pub fn read_stdin<'a, const ROOM: usize>(
 
 // What a program does with each of its inputs.
 pub trait Work {
-    fn on(&self, rt: &HostRuntime, name: &[u8], input: &[u8]);
+    fn on(&mut self, rt: &HostRuntime, name: &[u8], input: &[u8]);
 }
 
 // Hands each file that an argument names to `work`, with its name, from the argument `first` on; without one, standard input. What has no
 // place in `room` is cut off.
 // By hand: a trait, since whoever is handed a closure has to ask that it may be called; and the system gives arguments by their numbers.
-pub fn each<const N: usize, W: Work>(rt: &HostRuntime, first: usize, room: &mut [u8; N], work: &W) {
+pub fn each<const ROOM: usize, W>(
+    rt: &HostRuntime,
+    first: usize,
+    room: &mut [u8; ROOM],
+    work: &mut W,
+)
+where
+    W: Work,
+{
     let count = arg_count(rt);
     if count <= first {
         if let Some(input) = read_stdin(rt, room) {

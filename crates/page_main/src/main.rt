@@ -56,15 +56,17 @@ fn print_log(rt: &HostRuntime, name: &[u8], log: &[u8]) {
 }
 
 // The pages of a log are printed.
+#[derive(Drop)]
 struct Pages;
 
 impl Work for Pages {
-    fn on(&self, rt: &HostRuntime, name: &[u8], log: &[u8]) {
+    fn on(&mut self, rt: &HostRuntime, name: &[u8], log: &[u8]) {
         print_log(rt, name, log);
     }
 }
 
 fn main(rt: HostRuntime) {
+    // By hand: fixed memory, for one log after the other.
     let mut room = [0u8; ROOM];
-    input::each(&rt, 1, &mut room, &Pages);
+    input::each(&rt, 1, &mut room, &mut Pages);
 }
